@@ -1,0 +1,2 @@
+-- The page's section "Refusal numbers".
+pub mod Refusals

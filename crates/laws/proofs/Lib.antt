@@ -1,0 +1,6 @@
+pub mod TestLaws
+pub mod TableLaws
+pub mod PieceLaws
+pub mod LentLaws
+pub mod SearchLaws
+pub mod SizeLaws
