@@ -1,4 +1,5 @@
 pub mod SampleLaws
+pub mod TableLaws
 pub mod AscendingLaws
 pub mod WrittenLaws
 pub mod RenamingLaws

@@ -6,3 +6,4 @@ pub mod Rows
 pub mod Samples
 pub mod Fit
 pub mod Surface
+pub mod Loops

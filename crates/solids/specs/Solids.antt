@@ -6,17 +6,16 @@
 use mathlib.Core.Bool.{Bool}
 use mathlib.Core.List.{List, [], _∷_, map}
 use Prim.Native.Nat.{ℕ, zero, suc}
-use lib.ListN.{getD}
+use lib.ListN.{length, getD}
 use Rattle.laws.specs.Words.{gather, among}
+pub use Rattle.solids.specs.declared.Solid.{Solid}
+pub use Rattle.solids.specs.declared.Solid.the-variants.{Tetrahedron as tetrahedron, Pyramid as pyramid, Prism as prism, Hexahedron as hexahedron}
 
 abbrev pub Place : Type 0
 Place = ℕ
 
 abbrev pub Vertex : Type 0
 Vertex = ℕ
-
-pub data Solid : Type 0 where
-  tetrahedron pyramid prism hexahedron : Solid
 
 -- a face runs counterclockwise seen from outside
 pub data Face (A : Type 0) : Type 0 where
@@ -92,6 +91,18 @@ module _ {A : Type 0} where
   abbrev pub edgesOf : Face A → List (Edge A)
   edgesOf (three p q r) = edge p q ∷ edge q r ∷ edge r p ∷ []
   edgesOf (four p q r s) = edge p q ∷ edge q r ∷ edge r s ∷ edge s p ∷ []
+
+-- how many faces a solid has
+abbrev pub faceCount : Solid → ℕ
+faceCount s = length (faces s)
+
+-- the corners of a solid's face i, from 0; none where there is no such face
+unfoldable pub faceCorners : Solid → ℕ → List Place
+faceCorners s i = getD (map ofFace (faces s)) i []
+
+-- place k, from 0, of a solid's face i, from 0; 0 where there is none
+unfoldable pub facePlace : Solid → ℕ → ℕ → Place
+facePlace s i k = getD (faceCorners s i) k 0
 
 -- a corner of the face
 abbrev pub holds : ℕ → Face ℕ → Bool

@@ -1,0 +1,2 @@
+-- The page's element record, and how it is judged.
+pub mod Record
