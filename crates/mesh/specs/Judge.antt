@@ -1,18 +1,21 @@
 -- Judging a table: MANY for vertices, then elements; ROOM for the element table; each element in order: KIND, VERTEX, SPARE, REPEAT; pairs by
 -- lowest j, then lowest i.
-use mathlib.Core.Bool.{Bool, not}
+use mathlib.Core.Bool.{Bool, true, false, not}
 use mathlib.Core.List.{List, []}
-use Prim.Native.Nat.{ℕ, zero, suc, _*_, pred}
-use lib.Dec.{eqb, ltb}
+use mathlib.Core.Path.{_≡_}
+use Prim.Native.Nat.{ℕ, _*_, pred}
+use lib.Dec.{ltb}
 use lib.ListN.{length}
 use Rattle.laws.specs.Searches.{least}
 use Rattle.faults.specs.declared.Fault.{Fault}
 use Rattle.faults.specs.declared.Fault.the-variants.{Many, Room, Kind}
 use Rattle.faults.specs.declared.Finding.{Finding}
 use Rattle.faults.specs.declared.Finding.the-variants.{Clean, Found}
-use Rattle.faults.specs.Refusals.{Verdict, accepted, refused, refuse, refusePair, refuseIf}
+use Rattle.faults.specs.Refusals.{Verdict, accepted, refused, refuse, refusePair, refuseIf, andThen, answerOf}
 use Rattle.solids.specs.Solids.{Element}
 use Rattle.solids.specs.Fit.{fits}
+use Rattle.mesh.specs.declared.JudgeAnswer.{JudgeAnswer}
+use Rattle.mesh.specs.declared.JudgeAnswer.the-variants.{Done, Refused}
 use Rattle.records.specs.Record.{width, recordFinding, recordAt, elementAt, firstElements}
 
 -- at most 4,096 vertices, 1,024 elements
@@ -24,8 +27,8 @@ mostElements = 1024
 
 -- a finding is a fault
 abbrev pub isFault : Finding → Bool
-isFault Clean = Bool.false
-isFault (Found f) = Bool.true
+isFault Clean = false
+isFault (Found f) = true
 
 -- the fault that was found
 abbrev pub faultIn : Finding → Fault
@@ -57,3 +60,12 @@ judged v n t =
     (let k = badRecord v t n in refuseIf (ltb 0 k) (refuse (faultIn (recordFinding v (recordAt t (pred k)))) k)
     (let j = badElement t n in refuseIf (ltb 0 j) (refusePair j (misfit t (pred j)))
     (accepted (firstElements t n))))))
+
+-- the answer of judging as a verdict: it has no values of its own
+abbrev pub judgeVerdict : JudgeAnswer → Verdict (List ℕ)
+judgeVerdict Done = accepted []
+judgeVerdict (Refused r) = refused r
+
+-- judging: the answer for every two counts and every table
+pub record JudgeDone (v n : ℕ) (t : List ℕ) (r : JudgeAnswer) : Type 0 where
+  pub answer : answerOf [] (judgeVerdict r) ≡ answerOf [] (andThen (judged v n t) λ es. accepted [])

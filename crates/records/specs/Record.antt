@@ -9,7 +9,9 @@ use Rattle.laws.specs.Words.{some, distinct}
 use Rattle.faults.specs.declared.Fault.the-variants.{Kind, Vertex, Spare, Repeat}
 use Rattle.faults.specs.declared.Finding.{Finding}
 use Rattle.faults.specs.declared.Finding.the-variants.{Clean, Found}
-use Rattle.solids.specs.Solids.{Solid, tetrahedron, pyramid, prism, hexahedron, Element, element}
+use Rattle.solids.specs.declared.Solid.{Solid}
+use Rattle.solids.specs.declared.Solid.the-variants.{Tetrahedron, Pyramid, Prism, Hexahedron}
+use Rattle.solids.specs.Solids.{Element, element}
 
 -- how many numbers a record has
 abbrev pub width : ℕ
@@ -37,7 +39,7 @@ isKind k = eqb k 4 || (eqb k 5 || (eqb k 6 || eqb k 8))
 
 -- the solid of a kind; any other number is refused before its solid is asked for
 unfoldable pub solidOf : ℕ → Solid
-solidOf k = cond (eqb k 4) tetrahedron (cond (eqb k 5) pyramid (cond (eqb k 6) prism hexahedron))
+solidOf k = cond (eqb k 4) Tetrahedron (cond (eqb k 5) Pyramid (cond (eqb k 6) Prism Hexahedron))
 
 -- the element that a record holds
 unfoldable pub elementOf : List ℕ → Element
