@@ -1,1 +1,1 @@
--- What is proved of the element record.
+pub mod RecordLaws
