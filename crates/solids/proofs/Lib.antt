@@ -23,4 +23,6 @@ pub mod DiagonalLaws
 pub mod HalfLaws
 pub mod RotationWords
 pub mod RotationsComplete
+pub mod CountLaws
+pub mod TetLaws
 pub mod Theorems

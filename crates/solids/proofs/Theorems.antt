@@ -15,15 +15,12 @@ use Rattle.solids.specs.Fit.{proper, fitting}
 use Rattle.solids.specs.Surface.{Closed, SurfaceCut}
 use Rattle.laws.proofs.TestLaws.{and-left, and-right}
 use Rattle.solids.proofs.SampleLaws as S
-use Rattle.solids.proofs.ShapeLaws.{Proper}
+use Rattle.solids.proofs.ShapeLaws.{from-proper}
 use Rattle.solids.proofs.RowLaws as R
 use Rattle.solids.proofs.ClosedElement as C
 use Rattle.solids.proofs.RelistedLaws as Q
 use Rattle.solids.proofs.RotationsComplete as K
 use Rattle.solids.proofs.MeshLaws as M
-
-from-proper : (s : Solid) (vs : List ℕ) → T (proper (element s vs)) → Proper s vs
-from-proper s vs h = record { many = eqb→eq (length vs) (corners s) (and-left (eqb (length vs) (corners s)) (distinct vs) h); apart-all = and-right (eqb (length vs) (corners s)) (distinct vs) h }
 
 -- the samples of the page
 pub samples-hold : map (λ (s : Sample). cut (s .whole)) samples ≡ map (λ (s : Sample). s .parts) samples
