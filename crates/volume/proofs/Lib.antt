@@ -1,0 +1,5 @@
+-- What the room promises, and the laws that its functions' proofs share.
+pub mod Theorems
+pub mod RangeLaws
+pub mod BoundLaws
+pub mod VerdictLaws
