@@ -27,6 +27,10 @@ pub and-right : (a b : Bool) → T (a && b) → T b
 and-right true b t = t
 and-right false b t = absurd t
 
+pub and-both : (a b : Bool) → T a → T b → T (a && b)
+and-both true b p q = q
+and-both false b p q = absurd p
+
 -- the test passes at each number below n
 abbrev pub below : ℕ → (ℕ → Bool) → Bool
 below zero t = true

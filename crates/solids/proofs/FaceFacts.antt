@@ -178,7 +178,7 @@ module _ (s : Solid) (vs : List ℕ) (h : Proper s vs) where
       ∙ count-on (number vs) inj (g .0) (faces s)
       ∙ eqb→eq (count (λ G. sameSet (ofFace (g .0)) (ofFace G)) (faces s)) 1 (every-at (onceOk (faces s)) (faces s) (faces-once s) (g .0) (g .1))
 
-  number-among : (p : ℕ) → T (inside (corners s) p) → T (among (number vs p) vs)
+  pub number-among : (p : ℕ) → T (inside (corners s) p) → T (among (number vs p) vs)
   number-among p i = subst (λ (v : ℕ). T (among v vs)) (at-f s vs h p i) (at-among vs p (subst (λ (n : ℕ). T (inside n p)) (sym (h .many)) i))
 
   pub face-corners : (F : Face ℕ) → List·Memᴰ F (facesOf (element s vs)) → T (every (λ v. among v vs) (ofFace F))

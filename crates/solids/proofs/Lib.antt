@@ -24,5 +24,8 @@ pub mod HalfLaws
 pub mod RotationWords
 pub mod RotationsComplete
 pub mod CountLaws
+pub mod EvenReorderings
+pub mod ReferenceTest
+pub mod FilledLaws
 pub mod TetLaws
 pub mod Theorems
