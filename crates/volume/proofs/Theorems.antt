@@ -1,15 +1,19 @@
 -- What the room promises: two answers that the contract allows are equal; points within the limits are accepted with their sixfold volume,
--- which lies within 6,000,000,000,000,000,000 in either direction. Assumes nothing.
+-- which lies within 6,000,000,000,000,000,000 in either direction; the vertices of a table are its numbers, three by three. Assumes nothing.
 use mathlib.Core.Path.{_≡_, refl, sym, ap, _∙_}
 use mathlib.Core.Bool.{true}
+use mathlib.Core.List.{List, _∷_}
+use Prim.Native.Nat.{ℕ, suc, _+_, _*_, _-_}
+use native.Mathlib.Omega.{arith}
 use lib.IntN.{ℤ, pos}
-use Rattle.faults.specs.Refusals.{Verdict, accepted, refused}
+use lib.ListN.{getD}
+use Rattle.faults.specs.Refusals.{accepted}
 use Rattle.faults.proofs.Theorems.{answer-tells-verdict}
 use Rattle.laws.specs.Sizes.{Within}
 use Rattle.volume.specs.declared.Point.{Point}
 use Rattle.volume.specs.declared.VolumeAnswer.{VolumeAnswer}
-use Rattle.volume.specs.declared.VolumeAnswer.the-variants.{Done, Refused}
-use Rattle.volume.specs.Volume.{pointInRange, ranged, sixfold, volumeVerdict, verdictOf, VolumeDone}
+use Rattle.volume.specs.declared.VolumeAnswer.the-variants.{Done}
+use Rattle.volume.specs.Volume.{pointInRange, ranged, sixfold, volumeVerdict, verdictOf, VolumeDone, pointAt}
 use Rattle.volume.proofs.BoundLaws.{minus-within, determinant-within}
 use Rattle.volume.proofs.VerdictLaws.{answerWith, answer-again}
 
@@ -37,3 +41,24 @@ module _ (a b c d : Point) (ha : pointInRange a ≡ true) (hb : pointInRange b �
   pub sixfold-within : Within 6000000000000000000 (sixfold a b c d)
   unfolding sixfold
   sixfold-within = determinant-within (minus-within b a hb ha) (minus-within c a hc ha) (minus-within d a hd ha)
+
+-- vertex 1 of a table is its first three numbers
+pub first-vertex : (x y z : ℤ) (t : List ℤ) → pointAt (x ∷ y ∷ z ∷ t) 1 ≡ record { x = x; y = y; z = z }
+unfolding pointAt
+first-vertex x y z t = refl
+
+-- a number of a table is three indices lower in the rest
+three-lower : (x y z : ℤ) (t : List ℤ) (i j : ℕ) → i ≡ suc (suc (suc j)) → getD (x ∷ y ∷ z ∷ t) i (pos 0) ≡ getD t j (pos 0)
+three-lower x y z t i j e = ap (λ (k : ℕ). getD (x ∷ y ∷ z ∷ t) k (pos 0)) e
+
+-- the vertices after it are those of the rest
+pub later-vertex : (x y z : ℤ) (t : List ℤ) (v : ℕ) → pointAt (x ∷ y ∷ z ∷ t) (suc (suc v)) ≡ pointAt t (suc v)
+unfolding pointAt
+later-vertex x y z t v =
+    let i : ℕ = 3 * (suc (suc v) - 1) in
+    let j : ℕ = 3 * (suc v - 1) in
+    λ k. record {
+      x = three-lower x y z t i j (omega arith) k;
+      y = three-lower x y z t (i + 1) (j + 1) (omega arith) k;
+      z = three-lower x y z t (i + 2) (j + 2) (omega arith) k;
+    }

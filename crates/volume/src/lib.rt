@@ -131,5 +131,8 @@ pub fn sixfold_volume(a: Point, b: Point, c: Point, d: Point) -> VolumeAnswer
     if !point_in_range(d) {
         return beyond(4);
     }
-    VolumeAnswer::Done(determinant(minus(b, a), minus(c, a), minus(d, a)))
+    let u = minus(b, a);
+    let v = minus(c, a);
+    let w = minus(d, a);
+    VolumeAnswer::Done(determinant(u, v, w))
 }
