@@ -11,7 +11,7 @@ use faults::Fault;
 use faults::Refusal;
 
 // A coordinate lies from -LIMIT to LIMIT.
-const LIMIT: i32 = 500000;
+pub const LIMIT: i32 = 500000;
 
 // A vertex, in thousandths of a millimetre.
 pub struct Point {
