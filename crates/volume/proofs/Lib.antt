@@ -3,3 +3,4 @@ pub mod Theorems
 pub mod RangeLaws
 pub mod BoundLaws
 pub mod VerdictLaws
+pub mod ExchangeLaws

@@ -1,19 +1,22 @@
--- What it says that a point is within the limits: of each coordinate, of its size, and of what the machine reads back from its bits.
+-- What it says that a point is within the limits: of each coordinate, and of its size.
 -- Assumes nothing.
-use mathlib.Core.Path.{_≡_, refl}
-use mathlib.Core.Bool.{Bool, true, false, _&&_}
-use Prim.Native.Nat.{ℕ, suc}
+use mathlib.Core.Path.{_≡_, refl, sym, _∙_}
+use mathlib.Core.Bool.{Bool, true, false, not, _&&_}
 use native.Mathlib.Omega.{arith}
-use lib.Dec.{T, leb, ltb, lt→ltb}
-use lib.IntN.{ℤ, pos, negsuc, natAbs, negℤ}
-use lib.Signed.{leZ, mag}
-use borrow.Author.Tests.{leb-true}
-use mir.Syntax.{w32}
-use mir.Val.{SFits, toZ, ofZ}
-use mir.Facts.{toZ-ofZ}
+use lib.IntN.{ℤ, pos, negsuc, negℤ}
+use lib.Signed.{leZ}
+use borrow.Author.Tests.{leb-true, not-true, not-false}
 use Rattle.laws.specs.Sizes.{Within}
 use Rattle.volume.specs.declared.Point.{Point}
 use Rattle.volume.specs.Volume.{limit, inRange, pointInRange}
+
+-- a test that failed or passed, as a call gives it
+module _ {s t : Bool} where
+  pub failed : s ≡ t → not s ≡ true → t ≡ false
+  failed e h = sym e ∙ not-true s h
+
+  pub passed : s ≡ t → not s ≡ false → t ≡ true
+  passed e h = sym e ∙ not-false s h
 
 -- two tests that both passed
 both : (a b : Bool) → a && b ≡ true → (a ≡ true) × (b ≡ true)
@@ -24,7 +27,7 @@ pub in-range-within : (z : ℤ) → inRange z ≡ true → Within limit z
 unfolding inRange
 in-range-within (pos n) h = record { abs = leb-true n limit h }
 in-range-within (negsuc n) h =
-    let l = leb-true n 499999 (both (leb n 499999) true h .0) in
+    let l = leb-true n _ (both (leZ (negℤ (pos limit)) (negsuc n)) true h .0) in
     record { abs = omega arith }
 
 -- a coordinate that passed the lower test is judged by the upper one; one that failed it is beyond the limits

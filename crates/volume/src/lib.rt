@@ -11,7 +11,7 @@ use faults::Fault;
 use faults::Refusal;
 
 // A coordinate lies from -LIMIT to LIMIT.
-const LIMIT: i32 = 500000;
+pub const LIMIT: i32 = 500000;
 
 // A vertex, in thousandths of a millimetre.
 pub struct Point {
@@ -131,5 +131,8 @@ pub fn sixfold_volume(a: Point, b: Point, c: Point, d: Point) -> VolumeAnswer
     if !point_in_range(d) {
         return beyond(4);
     }
-    VolumeAnswer::Done(determinant(minus(b, a), minus(c, a), minus(d, a)))
+    let u = minus(b, a);
+    let v = minus(c, a);
+    let w = minus(d, a);
+    VolumeAnswer::Done(determinant(u, v, w))
 }

@@ -1,9 +1,11 @@
 -- `volume::determinant` meets its contract: a minor is within 2 * 10^12, a number of a row times it within 2 * 10^18, the whole within 6 * 10^18.
 -- Assumes nothing.
 use mathlib.Core.Path.{_≡_, _∙_}
+use borrow.Author.Needs.{needs}
 use lib.IntN.{ℤ}
 use Rattle.laws.specs.Sizes.{Within}
 use Rattle.laws.proofs.SizeLaws.{Is, is, is-by, kept, within-kept, fits-sub, fits-add, fits-mul, is-sub, is-mul, is-add}
+use Rattle.volume.specs.declared.Row.{Row}
 use Rattle.volume.specs.Volume.{minor, determinant}
 use Rattle.volume.specs.Rows.{reach, RowWithin}
 use Rattle.volume.proofs.BoundLaws.{minorReach, minor-within}
@@ -19,26 +21,35 @@ is-minor ha hb hc hd e =
     (minor-within ha hb hc hd)
     tt
 
+-- the numbers of a row, read back from their bits
+record Kept (u : Row) : Type 0 where
+  on-x : Within reach (kept (u .x))
+  on-y : Within reach (kept (u .y))
+  on-z : Within reach (kept (u .z))
+
+row-kept : {u : Row} → RowWithin reach u → Kept u
+row-kept h = record { on-x = within-kept (h .on-x) tt; on-y = within-kept (h .on-y) tt; on-z = within-kept (h .on-z) tt }
+
 minor-requires : tie.Need-minor-requires
 minor-requires c κs =
-    let h = c .before .before .before .before .pre .1 in (
-      within-kept (h .0 .on-y) tt,
-      (within-kept (h .0 .on-z) tt, (within-kept (h .1 .on-y) tt, within-kept (h .1 .on-z) tt)),
-    )
+    let h = c .before .before .before .before .pre .1 in
+    let v = row-kept (h .0) in
+    let w = row-kept (h .1) in
+    search needs
 
 minor-requires-2 : tie.Need-minor-requires-2
 minor-requires-2 c κs =
-    let h = c .before .before .before .before .before .before .before .before .before .pre .1 in (
-      within-kept (h .0 .on-x) tt,
-      (within-kept (h .0 .on-z) tt, (within-kept (h .1 .on-x) tt, within-kept (h .1 .on-z) tt)),
-    )
+    let h = c .before .before .before .before .before .before .before .before .before .pre .1 in
+    let v = row-kept (h .0) in
+    let w = row-kept (h .1) in
+    search needs
 
 minor-requires-3 : tie.Need-minor-requires-3
 minor-requires-3 c κs =
-    let h = c .before .before .before .before .before .before .before .before .before .before .before .before .before .before .pre .1 in (
-      within-kept (h .0 .on-x) tt,
-      (within-kept (h .0 .on-y) tt, (within-kept (h .1 .on-x) tt, within-kept (h .1 .on-y) tt)),
-    )
+    let h = c .before .before .before .before .before .before .before .before .before .before .before .before .before .before .pre .1 in
+    let v = row-kept (h .0) in
+    let w = row-kept (h .1) in
+    search needs
 
 -- after the calls: where the function starts, and the three minors
 abbrev start : tie.After-minor3 → tie.Start

@@ -1,8 +1,7 @@
 -- `volume::sixfold_volume` meets its contract: each answer follows from the tests that led to it. Assumes nothing.
-use mathlib.Core.Path.{_≡_, sym, ap, _∙_}
-use mathlib.Core.Bool.{Bool, true, false, not}
+use mathlib.Core.Path.{_≡_, ap, _∙_}
+use mathlib.Core.Bool.{true}
 use borrow.Author.Needs.{needs}
-use borrow.Author.Tests.{not-true, not-false}
 use lib.IntN.{ℤ}
 use mir.Syntax.{w64}
 use mir.Val.{SFits, toZ, ofZ}
@@ -12,17 +11,11 @@ use Rattle.volume.specs.declared.Row.{Row}
 use Rattle.volume.specs.declared.VolumeAnswer.the-variants.{Done}
 use Rattle.volume.specs.Volume.{pointInRange, minus, determinant, sixfold}
 use Rattle.volume.specs.Rows.{reach, RowWithin}
+use Rattle.volume.proofs.RangeLaws.{failed, passed}
 use Rattle.volume.proofs.BoundLaws.{minus-within}
 use Rattle.volume.proofs.VerdictLaws.{first-beyond, second-beyond, third-beyond, fourth-beyond, none-beyond}
 use Rattle.volume.proofs.sixfold_volume.Statement.{statement}
 use Rattle.volume.proofs.sixfold_volume.Tie as tie
-
--- the test of a point, as a call gives it
-failed : {s t : Bool} → s ≡ t → not s ≡ true → t ≡ false
-failed {s} e h = sym e ∙ not-true s h
-
-passed : {s t : Bool} → s ≡ t → not s ≡ false → t ≡ true
-passed {s} e h = sym e ∙ not-false s h
 
 -- a row, as a call gives it
 row-within : (q p : Point) {r : Row} → r ≡ minus q p → pointInRange q ≡ true → pointInRange p ≡ true → RowWithin reach r
@@ -91,35 +84,51 @@ returns-4 c =
     fourth-beyond (c .beyond4 .ensures) (at-a (k .before .before .before .before)) (at-b (k .before .before)) (at-c k)
     (failed (c .before .before .point-in-range4 .ensures) (c .before .if4 .taken))
 
+-- after the four tests: where the function starts, and that each point is within the limits
+abbrev start : tie.Else4 → tie.Start
+start c = c .before .before .before .before .before .before .before .before
+
+record Tested (c : tie.Else4) : Type 0 where
+  on-a : pointInRange (start c .args .a) ≡ true
+  on-b : pointInRange (start c .args .b) ≡ true
+  on-c : pointInRange (start c .args .c) ≡ true
+  on-d : pointInRange (start c .args .d) ≡ true
+
+tested : (c : tie.Else4) → Tested c
+tested c =
+    record {
+      on-a = at-a (c .before .before .before .before .before .before);
+      on-b = at-b (c .before .before .before .before);
+      on-c = at-c (c .before .before);
+      on-d = at-d c;
+    }
+
 minus-requires : tie.Need-minus-requires
-minus-requires c κs = (at-b (c .before .before .before .before), at-a (c .before .before .before .before .before .before))
+minus-requires c κs = let h = tested c in search needs
 
 minus-requires-2 : tie.Need-minus-requires-2
-minus-requires-2 c κs = let k = c .before in (at-c (k .before .before), at-a (k .before .before .before .before .before .before))
+minus-requires-2 c κs = let h = tested (c .before) in search needs
 
 minus-requires-3 : tie.Need-minus-requires-3
-minus-requires-3 c κs = let k = c .before .before in (at-d k, at-a (k .before .before .before .before .before .before))
+minus-requires-3 c κs = let h = tested (c .before .before) in search needs
 
 determinant-requires : tie.Need-determinant-requires
 determinant-requires c κs =
-    let k = c .before .before .before in
-    let s = k .before .before .before .before .before .before .before .before .args in
-    let a = at-a (k .before .before .before .before .before .before) in (
-      row-within (s .b) (s .a) (c .before .before .minus .ensures) (at-b (k .before .before .before .before)) a,
-      (
-        row-within (s .c) (s .a) (c .before .minus2 .ensures) (at-c (k .before .before)) a,
-        row-within (s .d) (s .a) (c .minus3 .ensures) (at-d k) a,
-      ),
-    )
+    let s = start (c .before .before .before) .args in
+    let h = tested (c .before .before .before) in
+    let u = row-within (s .b) (s .a) (c .before .before .minus .ensures) (h .on-b) (h .on-a) in
+    let v = row-within (s .c) (s .a) (c .before .minus2 .ensures) (h .on-c) (h .on-a) in
+    let w = row-within (s .d) (s .a) (c .minus3 .ensures) (h .on-d) (h .on-a) in
+    search needs
 
 returns-5 : tie.Need-returns-5
 returns-5 c =
-    let k = c .before .before .before .before in
-    let s = k .before .before .before .before .before .before .before .before .args in
+    let s = start (c .before .before .before .before) .args in
+    let h = tested (c .before .before .before .before) in
     none-beyond
     (volume-of (s .a) (s .b) (s .c) (s .d) (record { sfits = c .determinant .ok }) (c .determinant .ensures)
     (c .before .before .before .minus .ensures) (c .before .before .minus2 .ensures) (c .before .minus3 .ensures))
-    (at-a (k .before .before .before .before .before .before)) (at-b (k .before .before .before .before)) (at-c (k .before .before)) (at-d k)
+    (h .on-a) (h .on-b) (h .on-c) (h .on-d)
 
 pub sixfold-volume-spec : {M : Type 1} → statement M
 sixfold-volume-spec =
