@@ -19,7 +19,7 @@ use Rattle.solids.proofs.FaceFacts.{number-among}
 use Rattle.solids.proofs.EvenReorderings.{evens, written-even-too}
 use Rattle.solids.proofs.ReferenceTest.{sameZ, tetOk, shapeOk, shapes-fill}
 
-same-Z : (a b : ℤ) → T (sameZ a b) → a ≡ b
+pub same-Z : (a b : ℤ) → T (sameZ a b) → a ≡ b
 same-Z (pos a) (pos b) h = ap pos (eqb→eq a b h)
 same-Z (pos a) (negsuc b) h = absurd h
 same-Z (negsuc a) (pos b) h = absurd h

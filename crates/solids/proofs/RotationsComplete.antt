@@ -2,7 +2,7 @@
 -- place by place, left off as soon as a whole face is mapped to none.
 -- Assumes nothing.
 use mathlib.Core.Path.{_≡_, refl, sym, _∙_, ap, ap₂, subst}
-use mathlib.Core.Bool.{Bool, true, false, _&&_, _||_}
+use mathlib.Core.Bool.{Bool, true, false, not, _&&_, _||_}
 use mathlib.Core.List.{List, [], _∷_, _++_, append-nil, append-assoc, List·Memᴰ, Memᴰ·cast}
 use Prim.Native.Nat.{ℕ, zero, suc, _+_, _≤_, _<_}
 use native.Mathlib.Nat.{le-of-suc-le-suc, not-suc-le-zero}
@@ -35,6 +35,17 @@ eqList→eq [] [] h = refl
 eqList→eq [] (y ∷ ys) h = absurd h
 eqList→eq (x ∷ xs) [] h = absurd h
 eqList→eq (x ∷ xs) (y ∷ ys) h = let p = eqb→eq x y (and-left (eqb x y) (eqList xs ys) h) in let q = eqList→eq xs ys (and-right (eqb x y) (eqList xs ys) h) in cc
+
+-- no two of the lists are alike
+abbrev pub allDiffer : List (List ℕ) → Bool
+allDiffer [] = true
+allDiffer (u ∷ us) = not (some (eqList u) us) && allDiffer us
+
+pub all-differ : (s : Solid) → T (allDiffer (rotations s))
+all-differ tetrahedron = tt
+all-differ pyramid = tt
+all-differ prism = tt
+all-differ hexahedron = tt
 
 abbrev search-all : Solid → ℕ → List ℕ → Bool
 search-all s zero u = elim (keepOn s u) [ true ↦ some (eqList u) (rotations s) | false ↦ true ]
