@@ -1,4 +1,5 @@
 pub mod TestLaws
+pub mod EveryLaws
 pub mod TableLaws
 pub mod PieceLaws
 pub mod LentLaws

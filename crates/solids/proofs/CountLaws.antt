@@ -9,10 +9,10 @@ use native.Mathlib.Omega.{arith}
 use lib.Dec.{eqb, T, eqb→eq, lit≤}
 use lib.ListN.{length, length-append, length-map}
 use Rattle.laws.specs.Words.{count, every, gather}
-use Rattle.laws.proofs.TestLaws.{and-left, and-right}
 use Rattle.solids.specs.Solids.{Solid, tetrahedron, pyramid, prism, hexahedron, Tet, Element, element, opposite, onTet, ofTet}
 use Rattle.solids.specs.Cut.{first, bitsOf, through, howMany, written, upTo, insert, ascending, inOrder, cut, cutMesh}
 use Rattle.solids.specs.Fit.{proper}
+use Rattle.laws.proofs.TestLaws.{and-left, and-right}
 use Rattle.solids.proofs.RenamingLaws.{bitsAt}
 use Rattle.solids.proofs.NumberingLaws.{number}
 use Rattle.solids.proofs.ShapeLaws.{far, shape, Proper, from-proper, turnsOf, bits-f, cut-shape, allShapes, at-shape}

@@ -6,9 +6,10 @@ use mathlib.Core.List.{List, [], _∷_, _++_, map}
 use Prim.Native.Nat.{ℕ}
 use lib.Dec.{eqb, T}
 use Rattle.laws.specs.Words.{every, gather, lowest}
-use Rattle.laws.proofs.TestLaws.{and-left, and-right, and-both}
 use Rattle.solids.specs.Solids.{Tet, tet, onTet}
 use Rattle.solids.specs.Cut.{firstLowest, secondLowest, written}
+use Rattle.laws.proofs.TestLaws.{and-left, and-right}
+use Rattle.laws.proofs.EveryLaws.{every-front, every-rest}
 use Rattle.solids.proofs.WrittenLaws.{either}
 
 module _ {A : Type 0} where
@@ -35,14 +36,6 @@ module _ (P : Tet ℕ → Bool) where
       either (λ t. T (P t)) (eqb b m) (and-left x (y && (z && true)) h)
       (either (λ t. T (P t)) (eqb c m) (and-left y (z && true) hy) (and-left z true (and-right y (z && true) hy)))
 
-  left : (l m : List (Tet ℕ)) → T (every P (l ++ m)) → T (every P l)
-  left [] m h = tt
-  left (t ∷ l) m h = and-both (P t) (every P l) (and-left (P t) (every P (l ++ m)) h) (left l m (and-right (P t) (every P (l ++ m)) h))
-
-  right : (l m : List (Tet ℕ)) → T (every P (l ++ m)) → T (every P m)
-  right [] m h = h
-  right (t ∷ l) m h = right l m (and-right (P t) (every P (l ++ m)) h)
-
   -- a test that passes at each even reordering passes at the written form
   pub written-even-too : (t : Tet ℕ) → T (every P (evens t)) → T (P (written t))
   written-even-too (tet a b c d) h =
@@ -51,10 +44,10 @@ module _ (P : Tet ℕ → Bool) where
       let x = turnsOfThree (tet b a d c) in
       let y = turnsOfThree (tet c d a b) in
       let z = turnsOfThree (tet d c b a) in
-      let hx = right w (x ++ (y ++ (z ++ []))) h in
-      let hy = right x (y ++ (z ++ [])) hx in
-      let hz = right y (z ++ []) hy in
+      let hx = every-rest P w (x ++ (y ++ (z ++ []))) h in
+      let hy = every-rest P x (y ++ (z ++ [])) hx in
+      let hz = every-rest P y (z ++ []) hy in
       second (firstLowest (tet a b c d))
-      (either (λ t. T (every P (turnsOfThree t))) (eqb a m) (left w (x ++ (y ++ (z ++ []))) h)
-      (either (λ t. T (every P (turnsOfThree t))) (eqb b m) (left x (y ++ (z ++ [])) hx)
-      (either (λ t. T (every P (turnsOfThree t))) (eqb c m) (left y (z ++ []) hy) (left z [] hz))))
+      (either (λ t. T (every P (turnsOfThree t))) (eqb a m) (every-front P w (x ++ (y ++ (z ++ []))) h)
+      (either (λ t. T (every P (turnsOfThree t))) (eqb b m) (every-front P x (y ++ (z ++ [])) hx)
+      (either (λ t. T (every P (turnsOfThree t))) (eqb c m) (every-front P y (z ++ []) hy) (every-front P z [] hz))))

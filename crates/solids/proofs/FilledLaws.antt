@@ -8,10 +8,10 @@ use lib.Dec.{eqb, T, eqb→eq}
 use lib.ListN.{length}
 use lib.IntN.{ℤ, pos, negsuc, _+ℤ_, +ℤ-assoc, +ℤ-comm}
 use Rattle.laws.specs.Words.{every, among}
-use Rattle.laws.proofs.TestLaws.{and-left, and-right, and-both}
 use Rattle.solids.specs.Solids.{Solid, Tet, tet, Element, element, corners, at, onTet, ofTet}
 use Rattle.solids.specs.Cut.{placeOf, first, written, upTo, insert, ascending, inOrder, cut}
 use Rattle.solids.specs.Reference.{volumeOn, positive, referenceVolume, addUp, standing, Filled}
+use Rattle.laws.proofs.TestLaws.{and-both, and-left, and-right}
 use Rattle.solids.proofs.NumberingLaws.{number, number-inj, inside, at-number, placeOf-at}
 use Rattle.solids.proofs.ShapeLaws.{shape, Proper}
 use Rattle.solids.proofs.HalfLaws.{ways-of, cut-half, at-half}

@@ -7,11 +7,11 @@ use Prim.Native.Nat.{ℕ}
 use lib.Dec.{T, eqb}
 use lib.IntN.{ℤ, pos, negsuc, natAbs, _-ℤ_}
 use Rattle.laws.specs.Words.{every}
-use Rattle.laws.proofs.TestLaws.{below}
 use Rattle.volume.specs.Volume.{minus, minor, determinant, sixfold}
 use Rattle.solids.specs.Solids.{Solid, tetrahedron, pyramid, prism, hexahedron, Tet, tet, corners, faces, ofTet}
 use Rattle.solids.specs.Rows.{hexRows, rowPlaces, rowTets}
 use Rattle.solids.specs.Reference.{volumeOn, positive, counterclockwise, referenceVolume, addUp}
+use Rattle.laws.proofs.TestLaws.{below}
 use Rattle.solids.proofs.NumberingLaws.{inside}
 use Rattle.solids.proofs.ShapeLaws.{shape}
 use Rattle.solids.proofs.HalfLaws.{allHalves}

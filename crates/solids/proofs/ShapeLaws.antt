@@ -11,7 +11,7 @@ use Rattle.laws.specs.Words.{among, distinct, every, keep, count, gather, lowes
 use Rattle.solids.specs.Solids.{Solid, tetrahedron, pyramid, prism, hexahedron, Face, three, four, Tri, tri, Tet, tet, Element, element, corners, faces, at, opposite, onFace, onTri, onTet, ofFace, ofTet, holds, facesOf}
 use Rattle.solids.specs.Cut.{placeOf, turned, turns, lowestFirst, cutFace, onDiagonal, follow, toFirst, five, inOrder, lowestOf, farFaces, fan, first, bitsOf, through, fiveOf, tetsOf, cut}
 use Rattle.solids.specs.Fit.{proper}
-use Rattle.laws.proofs.TestLaws.{below, choices, at-choices, and-left, and-right}
+use Rattle.laws.proofs.TestLaws.{and-left, and-right, below, choices, at-choices}
 use Rattle.solids.proofs.RenamingLaws.{cutsAt, bitsAt, asked, keep-on, cuts-on, bits-on, follows-on, apart}
 use Rattle.solids.proofs.NumberingLaws.{number, number-inj, inside, at-place, at-number, faces-number, tets-number, lowest-place}
 

@@ -10,12 +10,13 @@ use native.Mathlib.Omega.{arith}
 use lib.Dec.{eqb, T}
 use borrow.Author.Tests.{ne-eqb}
 use Rattle.laws.specs.Words.{count, every, gather, among, distinct}
-use Rattle.laws.proofs.TestLaws.{and-left, and-right, T-true}
 use Rattle.solids.specs.Solids.{Solid, Tri, tri, Tet, tet, Element, element, ofTri, ofTet, cornersOf}
 use Rattle.solids.specs.Cut.{cut}
 use Rattle.solids.specs.Fit.{proper}
 use Rattle.solids.specs.Surface.{sides, sameTri, times, owners, eqTet, Plain}
-use Rattle.solids.proofs.SideLaws.{count-append, s0, same-test}
+use Rattle.laws.proofs.TestLaws.{and-both, and-left, T-true}
+use Rattle.laws.proofs.EveryLaws.{count-append}
+use Rattle.solids.proofs.SideLaws.{s0, same-test}
 use Rattle.solids.proofs.RowLaws.{eqTet→eq}
 use Rattle.solids.proofs.FaceFacts.{Apart₃}
 use Rattle.solids.proofs.PairLaws.{Good, good}
@@ -41,14 +42,10 @@ later x t ts = rw (count-append (sameTri x) (sides t) (gather sides ts)) (omega 
 
 -- what holds of each tetrahedron whose sides have owners
 module _ (Q : Tri ℕ → Type 0) (P : Tet ℕ → Bool) (from : (a b c d : ℕ) → Q (tri b c d) → Q (tri a d c) → Q (tri a b d) → T (P (tet a b c d))) where
-  both : (x y : Bool) → T x → T y → T (x && y)
-  both true y p q = q
-  both false y p q = absurd p
-
   all-tets : (ts : List (Tet ℕ)) → ((x : Tri ℕ) → 1 ≤ owners x ts → Q x) → T (every P ts)
   all-tets [] h = tt
   all-tets (tet a b c d ∷ ts) h =
-      both (P (tet a b c d)) (every P ts)
+      and-both (P (tet a b c d)) (every P ts)
       (from a b c d (h (tri b c d) (first-side a b c d ts)) (h (tri a d c) (second-side a b c d ts)) (h (tri a b d) (third-side a b c d ts)))
       (all-tets ts (λ x l. h x (le-trans l (later x (tet a b c d) ts))))
 

@@ -10,7 +10,6 @@ use lib.IntN.{ℤ, pos}
 use lib.ListN.{length}
 use borrow.Author.Tests.{eq-eqb, eqb-true}
 use Rattle.laws.specs.Words.{every}
-use Rattle.laws.proofs.TestLaws.{and-left, and-right, at-below}
 use Rattle.solids.specs.Solids.{Place, Vertex, Solid, tetrahedron, pyramid, prism, hexahedron, Tet, Element, element, faces}
 use Rattle.solids.specs.Rotations.{isRotation, relisted, rotations}
 use Rattle.solids.specs.Cut.{through, howMany, cut, cutMesh}
@@ -19,6 +18,7 @@ use Rattle.solids.specs.Rows.{rowPlaces, rowTets, cutByRow}
 use Rattle.solids.specs.Samples.{Sample, samples}
 use Rattle.solids.specs.Fit.{proper, fitting}
 use Rattle.solids.specs.Surface.{Plain, Closed, SurfaceCut}
+use Rattle.laws.proofs.TestLaws.{and-left, and-right, at-below}
 use Rattle.solids.proofs.ShapeLaws.{from-proper}
 use Rattle.solids.proofs.SampleLaws as SampleLaws
 use Rattle.solids.proofs.RowLaws as RowLaws
