@@ -17,3 +17,17 @@ pub enum CutAnswer {
     Done(CutCounts),
     Refused(Refusal),
 }
+
+// What an accepted sign report counts.
+pub struct SignCounts {
+    pub positive: usize,
+    pub zero: usize,
+    pub negative: usize,
+    pub unsound: usize,
+}
+
+// What a sign report answers.
+pub enum SignAnswer {
+    Done(SignCounts),
+    Refused(Refusal),
+}
