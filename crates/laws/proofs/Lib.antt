@@ -4,3 +4,4 @@ pub mod PieceLaws
 pub mod LentLaws
 pub mod SearchLaws
 pub mod SizeLaws
+pub mod WordLaws

@@ -1,0 +1,31 @@
+-- `records::corner` meets its contract: where there is no such place there is no vertex, else it stands at that index.
+-- Assumes nothing.
+use borrow.Author.Needs.{needs}
+use native.Mathlib.Omega.{arith}
+use Rattle.records.proofs.RecordLaws.{corner-none, corner-above, corner-behind, corner-field}
+use Rattle.records.proofs.corner.Statement.{statement}
+use Rattle.records.proofs.corner.Tie as tie
+
+cast-at : tie.Need-cast-at
+cast-at c = search needs
+
+returns : tie.Need-returns
+returns c = corner-none _ _ (c .if1 .taken)
+
+returns-2 : tie.Need-returns-2
+returns-2 c = corner-above _ _ (c .if2 .taken)
+
+returns-3 : tie.Need-returns-3
+returns-3 c = corner-behind _ _ (search needs) (c .before .if2 .left) (c .if3 .taken)
+
+mul-t6 : tie.Need-mul-t6
+mul-t6 c = search needs
+
+shared-slice-read-t8 : tie.Need-shared-slice-read-t8
+shared-slice-read-t8 c = search needs
+
+returns-4 : tie.Need-returns-4
+returns-4 c = corner-field _ _ (search needs) (c .before .before .if2 .left)
+
+pub corner-spec : {M : Type 1} → statement M
+corner-spec = tie.close (tie.spec cast-at returns returns-2 returns-3 mul-t6 shared-slice-read-t8 returns-4)
