@@ -1,5 +1,5 @@
--- Laws of one record: the parts that the code reads are the fields, and a whole record holds a proper element: as many corners as its solid
--- has, no vertex twice. Assumes nothing.
+-- Laws of a record and of a table of records: the parts that the code reads are the fields; a record without a fault is whole, and a whole
+-- record holds a proper element: as many corners as its solid has, no vertex twice. Assumes nothing.
 use mathlib.Core.Path.{_≡_, refl, sym, ap, _∙_, subst}
 use mathlib.Core.Bool.{Bool, true, false, cond, not, _&&_, _||_}
 use mathlib.Core.List.{List, [], _∷_, _++_}
@@ -190,6 +190,7 @@ is-zero : (v : ℕ) → notZero v ≡ false → T (eqb 0 v)
 is-zero v e = true-T (eq-eqb 0 v (sym (eqb-true v 0 (not-false (eqb v 0) e))))
 
 module _ (limit : ℕ) (r : List ℕ) where
+  -- no fault is found exactly where there is none
   pub clean-faultless : recordFinding limit r ≡ Clean → Faultless limit r
   unfolding recordFinding
   clean-faultless e =
@@ -254,6 +255,7 @@ unfolding recordAt
 record-beyond t k h =
     part-from t (length t) ∙ drop-length t ∙ sym (ap (take width) (drop-of-length-le t {i = width * k} (omega arith)))
 
+-- where the table is long enough for n records, each of them has nine numbers
 pub record-length : (t : List ℕ) (n k : ℕ) → width * n ≤ length t → k < n → length (recordAt t k) ≡ width
 unfolding recordAt
 record-length t n k long below =
@@ -261,6 +263,7 @@ record-length t n k long below =
 
 -- ---- the elements of a table
 
+-- the first n elements are n
 pub first-length : (t : List ℕ) (n : ℕ) → length (firstElements t n) ≡ n
 unfolding firstElements
 first-length t zero = refl

@@ -1,7 +1,6 @@
 -- `records::corner` meets its contract: where there is no such place there is no vertex, else it stands at that index.
 -- Assumes nothing.
 use borrow.Author.Needs.{needs}
-use native.Mathlib.Omega.{arith}
 use Rattle.records.proofs.RecordLaws.{corner-none, corner-above, corner-behind, corner-field}
 use Rattle.records.proofs.corner.Statement.{statement}
 use Rattle.records.proofs.corner.Tie as tie
