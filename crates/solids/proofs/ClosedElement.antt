@@ -10,7 +10,7 @@ use lib.Dec.{eqb, T, eqb→eq}
 use Rattle.laws.specs.Words.{gather, every, among}
 use Rattle.solids.specs.Solids.{Solid, Face, three, four, Tri, tri, Tet, Element, element, faces, at, onTri, onTet, onFace, ofFace, ofTri, facesOf}
 use Rattle.solids.specs.Cut.{turned, halves, cutFace, inOrder, first, cut}
-use Rattle.solids.specs.Surface.{sides, back, sameTri, times, owners, skin, within, Closed}
+use Rattle.solids.specs.Surface.{sides, back, sameTri, times, owners, byRule, skin, within}
 use Rattle.laws.proofs.TestLaws.{and-left, and-right}
 use Rattle.solids.proofs.RenamingLaws.{cutsAt, asked, cuts-on, eqb-on, turned-on, halves-on}
 use Rattle.solids.proofs.NumberingLaws.{number, number-inj}
@@ -93,7 +93,7 @@ module _ (s : Solid) (vs : List ℕ) (h : Proper s vs) where
   unfolding f S
   owners-shape t = owners-f t
 
-  skin-is : (t : Tri ℕ) → times t (skin (element s vs)) ≡ times t (map (onTri f) F)
+  skin-is : (t : Tri ℕ) → times t (skin (byRule (element s vs))) ≡ times t (map (onTri f) F)
   unfolding f F all ways-of
   skin-is t = skin-f s vs h t
 
@@ -128,21 +128,21 @@ module _ (s : Solid) (vs : List ℕ) (h : Proper s vs) where
           side (count-at t (u .0) (u .1) S ∙ p)
           (ap₂ {C = ℕ} (λ m n. m + n) (count-at t (u .0) (u .1) F) (count-at (back t) (back (u .0)) (back-at t (u .0) (u .1)) S) ∙ q)
 
-  once-f : (t : Tri ℕ) → owners t (cut (element s vs)) ≤ 1
+  pub once-f : (t : Tri ℕ) → owners t (cut (element s vs)) ≤ 1
   once-f t = rw (owners-f t) (go (case t))
     where
       go : Case t → times t (map (onTri f) S) ≤ 1
       go (no-side p q) = omega arith
       go (side p q) = omega arith
 
-  surface-f : (t : Tri ℕ) → times t (skin (element s vs)) ≡ owners t (cut (element s vs)) - owners (back t) (cut (element s vs))
+  pub surface-f : (t : Tri ℕ) → times t (skin (byRule (element s vs))) ≡ owners t (cut (element s vs)) - owners (back t) (cut (element s vs))
   surface-f t = rw (owners-f t, owners-f (back t), skin-is t) (go (case t))
     where
       go : Case t → times t (map (onTri f) F) ≡ times t (map (onTri f) S) - times (back t) (map (onTri f) S)
       go (no-side p q) = omega arith
       go (side p q) = omega arith
 
-  flat-f : (t : Tri ℕ) (X : Face ℕ) → List·Memᴰ X (facesOf (element s vs)) → 1 ≤ owners t (cut (element s vs)) → T (within t X) → times t (cutFace X) ≡ 1
+  pub flat-f : (t : Tri ℕ) (X : Face ℕ) → List·Memᴰ X (facesOf (element s vs)) → 1 ≤ owners t (cut (element s vs)) → T (within t X) → times t (cutFace X) ≡ 1
   unfolding f all ways-of
   flat-f t X m l w = go (Memᴰ·of-map (onFace (number vs)) (faces s) (subst (λ (fs : List (Face ℕ)). List·Memᴰ X fs) (faces-f s vs h) m))
     where
@@ -172,7 +172,3 @@ module _ (s : Solid) (vs : List ℕ) (h : Proper s vs) where
               pass : (b : Bool) → T b → T (cond b (eqb (times (u .0) (halves (turned k G))) 1) true) → T (eqb (times (u .0) (halves (turned k G))) 1)
               pass true p q = q
               pass false p q = absurd p
-
--- THE LOCAL THEOREM
-pub closed : (s : Solid) (vs : List ℕ) → Proper s vs → Closed (element s vs)
-closed s vs h = record { once = once-f s vs h; surface = surface-f s vs h; flat = flat-f s vs h }

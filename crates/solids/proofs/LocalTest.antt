@@ -12,7 +12,7 @@ use lib.ListN.{length, getD}
 use Rattle.laws.specs.Words.{count, gather, every, among, lowest, keep}
 use Rattle.solids.specs.Solids.{Solid, tetrahedron, pyramid, prism, hexahedron, Face, three, four, Tri, tri, Tet, tet, Element, element, corners, faces, at, onTri, onTet, onFace, ofFace, ofTri, holds, facesOf}
 use Rattle.solids.specs.Cut.{placeOf, turned, turns, halves, cutFace, inOrder, first, tetsOf, cut}
-use Rattle.solids.specs.Surface.{sides, back, sameTri, times, owners, skin, within}
+use Rattle.solids.specs.Surface.{sides, back, sameTri, times, owners, byRule, skin, within}
 use Rattle.laws.proofs.TestLaws.{or-cases, and-left, and-right, true-T}
 use Rattle.laws.proofs.EveryLaws.{count-append}
 use Rattle.solids.proofs.RenamingLaws.{cutsAt, asked, cuts-on, eqb-on, turned-on, halves-on}
@@ -166,7 +166,7 @@ module _ (s : Solid) (vs : List ℕ) (h : Proper s vs) where
       Y : List (Tri ℕ)
       Y = cutsAt fs (map (wayOf (number vs)) fs)
 
-  pub skin-f : (t : Tri ℕ) → times t (skin (element s vs)) ≡ times t (map (onTri (number vs)) (skinAt s (first vs) (map (wayOf (number vs)) (far s (first vs)))))
+  pub skin-f : (t : Tri ℕ) → times t (skin (byRule (element s vs))) ≡ times t (map (onTri (number vs)) (skinAt s (first vs) (map (wayOf (number vs)) (far s (first vs)))))
   skin-f t =
       ap (λ (fs : List (Face ℕ)). times t (gather cutFace fs)) (faces-f s vs h)
       ∙ all-halves t (faces s)
