@@ -1,1 +1,5 @@
 -- What is proved of tables.
+pub mod InsertLaws
+pub mod CornerLaws
+pub mod FaceLaws
+pub mod ChoiceLaws

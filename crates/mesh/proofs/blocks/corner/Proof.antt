@@ -1,3 +1,10 @@
+-- A place of the solid is an index of the record.
+-- Assumes nothing.
+use mathlib.Core.Path.{_≡_, refl, sym, ap, _∙_}
+use native.Mathlib.Omega.{arith}
+use denote.Ref.{now}
+use Rattle.records.proofs.RecordLaws.{kind-small}
+use Rattle.mesh.proofs.CornerLaws.{corner-in, corner-out}
 use borrow.Author.Needs.{needs}
 use Rattle.mesh.proofs.blocks.corner.Statement.{statement}
 use Rattle.mesh.proofs.blocks.corner.Tie as tie
@@ -19,7 +26,7 @@ cast-if2 c = search needs
 
 -- src/blocks.rt:212:9
 returns-2 : tie.Need-returns-2
-returns-2 c = ?
+returns-2 c = corner-out (now (c .before .before .before .before .before .before .args .numbers)) (c .before .before .before .before .before .before .pre) (c .before .before .before .before .before .before .args .place .0) (omega (arith, c .before .before .before .before .kind-of .ensures, c .if2 .taken))
 
 -- src/blocks.rt:214:13
 cast-i : tie.Need-cast-i
@@ -31,11 +38,11 @@ mul-t7 c = search needs
 
 -- src/blocks.rt:215:12
 shared-slice-read-t6 : tie.Need-shared-slice-read-t6
-shared-slice-read-t6 c = ?
+shared-slice-read-t6 c = omega (arith, c .before .before .before .before .before .before .kind-of .ensures, c .before .before .if2 .left, c .before .before .before .before .before .before .before .before .pre .wide, kind-small _ (c .before .before .before .before .before .before .before .before .pre .kind))
 
 -- src/blocks.rt:203:1
 returns-3 : tie.Need-returns-3
-returns-3 c = ?
+returns-3 c = corner-in (now (c .before .before .before .before .before .before .before .before .args .numbers)) (c .before .before .before .before .before .before .before .before .pre) (c .before .before .before .before .before .before .before .before .args .place .0) (c .before .before .before .before .if1 .left) (omega (arith, c .before .before .before .before .before .before .kind-of .ensures, c .before .before .if2 .left))
 
 pub corner-spec : {M : Type 1} → statement M
 corner-spec =

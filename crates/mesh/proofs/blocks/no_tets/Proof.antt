@@ -1,3 +1,8 @@
+-- No tetrahedra.
+-- Assumes nothing.
+use mathlib.Core.Path.{refl}
+use native.Mathlib.Omega.{arith}
+use Rattle.mesh.specs.BlockLoops.{tetsIn}
 use Rattle.mesh.proofs.blocks.no_tets.Statement.{statement}
 use Rattle.mesh.proofs.blocks.no_tets.Tie as tie
 use Rattle.mesh.proofs.blocks.no_tets.Reads as reads
@@ -5,7 +10,8 @@ use Rattle.mesh.proofs.blocks.no_tets.Lts as lts
 
 -- src/blocks.rt:161:1
 returns : tie.Need-returns
-returns c = ?
+unfolding tetsIn
+returns c = record { few = omega arith; many = refl; same = refl }
 
 pub no-tets-spec : {M : Type 1} → statement M
 no-tets-spec = tie.close (tie.spec returns)
