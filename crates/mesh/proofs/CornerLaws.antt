@@ -8,9 +8,19 @@ use native.Mathlib.Omega.{arith}
 use lib.ListN.{length, take, drop, getD, List·getD-eq-default}
 use lib.Seq.{getD-take, getD-drop}
 use Rattle.solids.specs.Solids.{at}
-use Rattle.records.specs.Record.{kindOf, numbersOf, usedOf}
+use lib.Dec.{T}
+use Rattle.records.specs.Record.{kindOf, numbersOf, usedOf, isKind}
 use Rattle.records.specs.Loops.{Whole}
-use Rattle.records.proofs.RecordLaws.{kind-small, used-length}
+use Rattle.records.proofs.RecordLaws.{IsOne, is-4, is-5, is-6, is-8, which-kind, kind-small, used-length}
+
+pub kind-least : (k : ℕ) → T (isKind k) → 4 ≤ k
+kind-least k h = go (which-kind k h)
+  where
+    go : IsOne k → 4 ≤ k
+    go (is-4 e) = omega arith
+    go (is-5 e) = omega arith
+    go (is-6 e) = omega arith
+    go (is-8 e) = omega arith
 
 module _ (r : List ℕ) (w : Whole r) where
   pub corner-in : (p : ℕ) → (p ≡ 0 → ⊥) → p ≤ kindOf r → getD r p 0 ≡ at (usedOf r) p

@@ -1,5 +1,10 @@
 -- What is proved of tables.
 pub mod InsertLaws
 pub mod CornerLaws
+pub mod LowestLaws
 pub mod FaceLaws
 pub mod ChoiceLaws
+pub mod BlockLaws
+pub mod FanLaws
+pub mod RowTetLaws
+pub mod ShapeBounds

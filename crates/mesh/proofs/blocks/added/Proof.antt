@@ -1,3 +1,11 @@
+-- The tetrahedron in its written form, put at its place.
+-- Assumes nothing.
+use mathlib.Core.Path.{_≡_, refl, sym, ap, _∙_}
+use native.Mathlib.Omega.{arith}
+use lib.ListN.{take}
+use mathlib.Core.List.{map}
+use Rattle.solids.specs.Cut.{insert}
+use Rattle.mesh.specs.BlockLoops.{tetOf, tetsIn, Grown}
 use borrow.Author.Needs.{needs}
 use Rattle.mesh.proofs.blocks.added.Statement.{statement}
 use Rattle.mesh.proofs.blocks.added.Tie as tie
@@ -20,7 +28,11 @@ add-t7 c = search needs
 
 -- src/blocks.rt:154:1
 returns : tie.Need-returns
-returns c = ?
+unfolding tetsIn
+returns c = record {
+  many = refl;
+  same = c .insert-into .ensures ∙ ap (λ t. insert t (map tetOf (take (c .before .before .before .args .block .count) (c .before .before .before .args .block .tets)))) (c .before .written-form .ensures);
+}
 
 pub added-spec : {M : Type 1} → statement M
 added-spec = tie.close (tie.spec written-form-requires insert-into-requires add-t7 returns)
