@@ -8,3 +8,4 @@ pub mod BlockLaws
 pub mod FanLaws
 pub mod RowTetLaws
 pub mod ShapeBounds
+pub mod RecordCutLaws

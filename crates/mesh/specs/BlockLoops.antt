@@ -7,10 +7,12 @@ use Prim.Native.Nat.{ℕ, _+_, _*_, _≤_}
 use lib.Dec.{eqb}
 use lib.ListN.{length, take}
 use Rattle.laws.specs.Words.{keep}
+use Rattle.laws.specs.Lent.{placed}
 use Rattle.solids.specs.declared.Solid.{Solid}
 use Rattle.solids.specs.Solids.{Place, Vertex, Face, three, four, Tet, tet, at, onFace, onTet, holds, facePlace}
 use Rattle.solids.specs.Cut.{lowestFirst, cutFace, follow, onDiagonal, written, insert}
 use Rattle.solids.specs.Rows.{binary, rowPlace}
+use Rattle.mesh.specs.Cutting.{flat}
 use Rattle.mesh.specs.declared.blocks.Tet as code-tet
 use Rattle.mesh.specs.declared.blocks.Face as code-face
 use Rattle.mesh.specs.declared.blocks.Face.the-variants.{Three, Four}
@@ -78,3 +80,15 @@ rowTet r k = tet (rowPlace r (4 * k)) (rowPlace r (4 * k + 1)) (rowPlace r (4 * 
 -- the same in vertex numbers; none where it is four zeros
 unfoldable pub rowTetsAt : List Vertex → ℕ → ℕ → List (Tet Vertex)
 rowTetsAt vs r k = cond (eqb (rowPlace r (4 * k)) 0) [] (onTet (at vs) (rowTet r k) ∷ [])
+
+-- ---- a table
+
+-- tetrahedra stored from an index on, and their count
+pub record Stored (ts : List (Tet Vertex)) (at : ℕ) (old : List ℕ) (r : ℕ) (new : List ℕ) : Type 0 where
+  pub count : r ≡ length ts
+  pub output : new ≡ placed old at (flat ts)
+
+-- the count of the tetrahedra of n elements, at most six to each
+pub record Counted (ts : List (Tet Vertex)) (n r : ℕ) : Type 0 where
+  pub count : r ≡ length ts
+  pub few : r ≤ 6 * n

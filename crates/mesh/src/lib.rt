@@ -2,6 +2,7 @@
 use faults::Refusal;
 
 mod blocks;
+mod cutting;
 
 // What judging a table answers.
 pub enum JudgeAnswer {

@@ -1,3 +1,13 @@
+-- Four zeros give none, any other four places their tetrahedron.
+-- Assumes nothing.
+use mathlib.Core.Path.{_≡_, sym, ap, _∙_, subst}
+use mathlib.Core.List.{[], _∷_}
+use denote.Ref.{now}
+use borrow.Author.Tests.{eq-eqb, ne-eqb}
+use Rattle.records.specs.Record.{usedOf}
+use Rattle.mesh.specs.BlockLoops.{Grown}
+use Rattle.mesh.proofs.BlockLaws.{grown-none}
+use Rattle.mesh.proofs.RowTetLaws.{row-none, row-one}
 use borrow.Author.Needs.{needs}
 use Rattle.mesh.proofs.blocks.with_row_tet.Statement.{statement}
 use Rattle.mesh.proofs.blocks.with_row_tet.Tie as tie
@@ -17,7 +27,7 @@ row-place-requires c κs = search needs
 
 -- src/blocks.rt:413:9
 returns : tie.Need-returns
-returns c = ?
+returns c = rw (row-none (usedOf (now (c .before .before .before .before .args .numbers))) (c .before .before .before .before .args .row) (c .before .before .before .before .args .k) (eq-eqb _ _ (sym (c .before .before .row-place .ensures) ∙ c .if1 .taken))) (grown-none (c .before .before .before .before .args .block))
 
 -- src/blocks.rt:415:18
 row-tet-requires : tie.Need-row-tet-requires
@@ -29,7 +39,10 @@ added-requires c κs = search needs
 
 -- src/blocks.rt:405:1
 returns-2 : tie.Need-returns-2
-returns-2 c = ?
+returns-2 c = 
+    let b = c .before .before .before .before .before .before .args .block in
+    let one = row-one (usedOf (now (c .before .before .before .before .before .before .args .numbers))) (c .before .before .before .before .before .before .args .row) (c .before .before .before .before .before .before .args .k) (ne-eqb _ _ (λ e. c .before .before .if1 .left (c .before .before .before .before .row-place .ensures ∙ e))) in
+    subst (λ l. Grown b l (c .added .result)) (ap (λ t. t ∷ []) (c .before .row-tet .ensures) ∙ sym one) (c .added .ensures)
 
 pub with-row-tet-spec : {M : Type 1} → statement M
 with-row-tet-spec =
