@@ -15,6 +15,10 @@ use Rattle.solids.proofs.AscendingLaws.{clash}
 use Rattle.mesh.specs.declared.blocks.Tet as code
 use Rattle.mesh.specs.BlockLoops.{tetOf}
 
+-- what is read where an array has none
+abbrev pub none : code.Tet
+none = record { a = record { 0 = 0 }; b = record { 0 = 0 }; c = record { 0 = 0 }; d = record { 0 = 0 } }
+
 -- the one in hand put among the rest, before all of them if it made room for another
 abbrev put : Bool → Tet ℕ → List (Tet ℕ) → List (Tet ℕ)
 put true t us = t ∷ us

@@ -9,3 +9,5 @@ pub mod FanLaws
 pub mod RowTetLaws
 pub mod ShapeBounds
 pub mod RecordCutLaws
+pub mod StoreLaws
+pub mod MeshCutLaws

@@ -76,9 +76,19 @@ fn second_lowest(t: Tet) -> Tet
         return t;
     }
     if c.0 == m.0 {
-        return Tet { a: a, b: c, c: d, d: b };
+        return Tet {
+            a: a,
+            b: c,
+            c: d,
+            d: b,
+        };
     }
-    Tet { a: a, b: d, c: b, d: c }
+    Tet {
+        a: a,
+        b: d,
+        c: b,
+        d: c,
+    }
 }
 
 // The lowest number first, by an exchange of two pairs, and then the lowest of the other three.
@@ -94,12 +104,27 @@ fn written_form(t: Tet) -> Tet
         return second_lowest(t);
     }
     if b.0 == m.0 {
-        return second_lowest(Tet { a: b, b: a, c: d, d: c });
+        return second_lowest(Tet {
+            a: b,
+            b: a,
+            c: d,
+            d: c,
+        });
     }
     if c.0 == m.0 {
-        return second_lowest(Tet { a: c, b: d, c: a, d: b });
+        return second_lowest(Tet {
+            a: c,
+            b: d,
+            c: a,
+            d: b,
+        });
     }
-    second_lowest(Tet { a: d, b: c, c: b, d: a })
+    second_lowest(Tet {
+        a: d,
+        b: c,
+        c: b,
+        d: a,
+    })
 }
 
 // Not above, compared number by number.
@@ -438,10 +463,34 @@ fn with_triangles(block: Block, v: Vertex, face: Face) -> Block
     ensures { λ r. ⌜ Grown block (map (follow (v .0)) (halves (faceOf face))) r ⌝ }
 {
     match face {
-        Face::Three(p, q, r) => added(block, Tet { a: v, b: p, c: q, d: r }),
+        Face::Three(p, q, r) => added(
+            block,
+            Tet {
+                a: v,
+                b: p,
+                c: q,
+                d: r,
+            },
+        ),
         Face::Four(p, q, r, s) => {
-            let later = added(block, Tet { a: v, b: p, c: r, d: s });
-            added(later, Tet { a: v, b: p, c: q, d: r })
+            let later = added(
+                block,
+                Tet {
+                    a: v,
+                    b: p,
+                    c: r,
+                    d: s,
+                },
+            );
+            added(
+                later,
+                Tet {
+                    a: v,
+                    b: p,
+                    c: q,
+                    d: r,
+                },
+            )
         }
     }
 }

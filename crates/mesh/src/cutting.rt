@@ -1,17 +1,16 @@
 // The tetrahedra of a table: counted, and stored one after the other.
 use crate::blocks;
-use crate::blocks::Block;
 use crate::blocks::Tet;
 ghost use mathlib.Core.Path.{_≡_};
-ghost use mathlib.Core.List.{[], _∷_};
+ghost use mathlib.Core.List.{[], _∷_, map};
 ghost use Prim.Native.Nat.{_+_, _*_, _≤_};
-ghost use lib.ListN.{length};
+ghost use lib.ListN.{length, take};
 ghost use Rattle.laws.specs.Lent.{laid, placed};
 ghost use Rattle.solids.specs.Cut.{cut, cutMesh};
 ghost use Rattle.records.specs.Record.{width, elementOf, recordAt, firstElements};
 ghost use Rattle.records.specs.Loops.{Whole, WholeTable};
 ghost use Rattle.mesh.specs.Cutting.{tetWidth, flat};
-ghost use Rattle.mesh.specs.BlockLoops.{tetOf, tetsIn, Stored, Counted};
+ghost use Rattle.mesh.specs.BlockLoops.{tetOf, Stored, Counted};
 
 // How many numbers a record has.
 const RECORD: usize = 9;
@@ -40,14 +39,12 @@ fn put_tet(out: &mut [u16], at: usize, t: Tet)
     out[at + 3] = t.d.0;
 }
 
-// A block's tetrahedra, from an index on.
-fn put_block(out: &mut [u16], at: usize, block: Block)
-    requires { ⌜ block .count ≤ 6 ⌝ }
-    requires { ⌜ at + tetWidth * block .count ≤ length (now out) ⌝ }
-    ensures { λ _. ⌜ now (out .exit) ≡ placed (now (out .entry)) at (flat (tetsIn block)) ⌝ }
+// The first n of six tetrahedra, from an index on.
+fn put_tets(out: &mut [u16], at: usize, tets: [Tet; 6], n: usize)
+    requires { ⌜ n ≤ 6 ⌝ }
+    requires { ⌜ at + tetWidth * n ≤ length (now out) ⌝ }
+    ensures { λ _. ⌜ now (out .exit) ≡ placed (now (out .entry)) at (flat (map tetOf (take n tets))) ⌝ }
 {
-    let n = block.count;
-    let tets = block.tets;
     let mut k = 0;
     while k < n {
         let t = tets[k];
@@ -64,7 +61,8 @@ fn put_element(numbers: &[u16], out: &mut [u16], at: usize) -> usize
 {
     let block = blocks::block_of(numbers);
     let count = block.count;
-    put_block(out, at, block);
+    let tets = block.tets;
+    put_tets(out, at, tets, count);
     count
 }
 

@@ -31,7 +31,7 @@ module _ {vs : List ℕ} {low high n i : ℕ} (k : Kept vs low high n i) where
   step h {F} {m} e f =
       let s : suc (i - 1) ≡ i = omega arith in
       let d : drop (i - 1) (facesIn vs) ≡ faceIn Hexahedron vs (i - 1) ∷ drop i (facesIn vs) =
-          face-next Hexahedron vs (i - 1) (omega (arith, k .up)) ∙ ap (λ (j : ℕ). faceIn Hexahedron vs (i - 1) ∷ drop j (facesIn vs)) s in
+      face-next Hexahedron vs (i - 1) (omega (arith, k .up)) ∙ ap (λ (j : ℕ). faceIn Hexahedron vs (i - 1) ∷ drop j (facesIn vs)) s in
       record {
         up = omega (arith, k .up);
         same =

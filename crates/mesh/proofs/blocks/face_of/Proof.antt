@@ -43,7 +43,7 @@ face-place-requires-4 c κs = search needs
 
 -- src/blocks.rt:257:9
 returns : tie.Need-returns
-returns c = 
+returns c =
     let vs = usedOf (now (c .before .before .before .before .before .before .before .before .before .before .args .numbers)) in
     read-three (c .before .before .before .before .before .before .before .before .before .before .args .solid) vs (c .before .before .before .before .before .before .before .before .before .before .args .i) (c .before .before .before .before .before .before .before .corner .ensures ∙ ap (at vs) (c .before .before .before .before .before .before .before .before .face-place .ensures)) (c .before .before .before .before .before .corner2 .ensures ∙ ap (at vs) (c .before .before .before .before .before .before .face-place2 .ensures))
     (c .before .before .before .corner3 .ensures ∙ ap (at vs) (c .before .before .before .before .face-place3 .ensures)) (c .before .before .face-place4 .ensures) (c .if1 .taken)
@@ -54,7 +54,7 @@ corner-requires-4 c κs = search needs
 
 -- src/blocks.rt:248:1
 returns-2 : tie.Need-returns-2
-returns-2 c = 
+returns-2 c =
     let vs = usedOf (now (c .before .before .before .before .before .before .before .before .before .before .before .args .numbers)) in
     read-four (c .before .before .before .before .before .before .before .before .before .before .before .args .solid) vs (c .before .before .before .before .before .before .before .before .before .before .before .args .i) (c .before .before .before .before .before .before .before .before .corner .ensures ∙ ap (at vs) (c .before .before .before .before .before .before .before .before .before .face-place .ensures)) (c .before .before .before .before .before .before .corner2 .ensures ∙ ap (at vs) (c .before .before .before .before .before .before .before .face-place2 .ensures))
     (c .before .before .before .before .corner3 .ensures ∙ ap (at vs) (c .before .before .before .before .before .face-place3 .ensures)) (c .before .before .before .face-place4 .ensures) (c .before .if1 .left) (c .corner4 .ensures ∙ ap (at vs) (c .before .before .before .face-place4 .ensures))

@@ -13,12 +13,9 @@ use Rattle.solids.specs.Solids.{Tet, ofTet}
 use Rattle.solids.specs.Cut.{upTo, insert}
 use Rattle.mesh.specs.declared.blocks.Tet as code
 use Rattle.mesh.specs.BlockLoops.{tetOf}
-use Rattle.mesh.proofs.InsertLaws.{ahead, ahead-goes, ahead-stays, ahead-end}
+use Rattle.mesh.proofs.InsertLaws.{none, ahead, ahead-goes, ahead-stays, ahead-end}
 use Rattle.mesh.proofs.blocks.insert_into.Statement.{statement}
 use Rattle.mesh.proofs.blocks.insert_into.Tie as tie
-
-abbrev none : code.Tet
-none = record { a = record { 0 = 0 }; b = record { 0 = 0 }; c = record { 0 = 0 }; d = record { 0 = 0 } }
 
 record Kept (n : ℕ) (l₀ : List code.Tet) (t₀ : code.Tet) (l : List code.Tet) (t : code.Tet) (m : Bool) (i : ℕ) : Type 0 where
   small : n < 6

@@ -52,7 +52,7 @@ corner-requires-2 c κs = search needs
 
 -- src/blocks.rt:378:9
 diagonals-requires : tie.Need-diagonals-requires
-diagonals-requires c κs = 
+diagonals-requires c κs =
     let p = c .before .before .before .before .before .pre in
     (p .0, few (now (c .before .before .before .before .before .args .numbers)) (p .0) (p .1) (c .before .before .before .lowest-place .ensures) (c .before .before .corner .ensures) (c .before .opposite-place .ensures) (c .corner2 .ensures))
 
@@ -70,14 +70,14 @@ mul-result c = search needs
 
 -- src/blocks.rt:379:5
 add-result : tie.Need-add-result
-add-result c = 
+add-result c =
     let p = c .before .before .before .before .before .before .before .pre in
     let m = few (now (c .before .before .before .before .before .before .before .args .numbers)) (p .0) (p .1) (c .before .before .before .before .before .lowest-place .ensures) (c .before .before .before .before .corner .ensures) (c .before .before .before .opposite-place .ensures) (c .before .before .corner2 .ensures) in
     omega (arith, c .before .diagonals .ensures, c .before .before .before .before .before .lowest-place .ensures, first-place (now (c .before .before .before .before .before .before .before .args .numbers)) (p .0))
 
 -- src/blocks.rt:370:1
 returns : tie.Need-returns
-returns c = 
+returns c =
     let p = c .before .before .before .before .before .before .before .pre in
     row (now (c .before .before .before .before .before .before .before .args .numbers)) (p .0) (p .1) (c .before .before .before .before .before .lowest-place .ensures) (c .before .before .before .before .corner .ensures) (c .before .before .before .opposite-place .ensures) (c .before .before .corner2 .ensures) (c .before .diagonals .ensures)
 

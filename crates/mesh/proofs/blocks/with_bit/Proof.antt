@@ -39,7 +39,7 @@ add-result c = search needs
 
 -- src/blocks.rt:341:9
 returns-2 : tie.Need-returns-2
-returns-2 c = 
+returns-2 c =
     let high = c .before .before .before .before .before .args .high .0 in
     bit-through (c .before .before .before .before .before .args .low .0) high (faceOf (c .before .before .before .before .before .args .face)) (c .before .before .before .before .before .args .number) (sym (c .before .before .before .before .is-corner .ensures) ∙ c .before .before .before .if1 .left)
     (ap (onDiagonal high) (sym (c .before .before .lowest-first .ensures)) ∙ sym (c .before .on-diagonal .ensures) ∙ c .if2 .taken)
@@ -50,7 +50,7 @@ mul-result-2 c = search needs
 
 -- src/blocks.rt:333:1
 returns-3 : tie.Need-returns-3
-returns-3 c = 
+returns-3 c =
     let high = c .before .before .before .before .before .args .high .0 in
     bit-beside (c .before .before .before .before .before .args .low .0) high (faceOf (c .before .before .before .before .before .args .face)) (c .before .before .before .before .before .args .number) (sym (c .before .before .before .before .is-corner .ensures) ∙ c .before .before .before .if1 .left)
     (ap (onDiagonal high) (sym (c .before .before .lowest-first .ensures)) ∙ sym (c .before .on-diagonal .ensures) ∙ c .if2 .left)

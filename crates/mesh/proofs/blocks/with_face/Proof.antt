@@ -31,17 +31,17 @@ lowest-first-requires c κs = search needs
 
 -- src/blocks.rt:457:5
 with-triangles-requires : tie.Need-with-triangles-requires
-with-triangles-requires c κs = 
+with-triangles-requires c κs =
     let low = c .before .before .before .args .low .0 in
     let F = faceOf (c .before .before .before .args .face) in
     let far = far-tets low F (sym (c .before .before .is-corner .ensures) ∙ c .before .if1 .left) in
     let e : length (faceTets low F) ≡ length (halves (faceOf (c .lowest-first .result))) =
-        ap length far ∙ length-map (cutFace F) (follow low) ∙ ap (λ G. length (halves G)) (sym (c .lowest-first .ensures)) in
+    ap length far ∙ length-map (cutFace F) (follow low) ∙ ap (λ G. length (halves G)) (sym (c .lowest-first .ensures)) in
     omega (arith, c .before .before .before .pre)
 
 -- src/blocks.rt:450:1
 returns-2 : tie.Need-returns-2
-returns-2 c = 
+returns-2 c =
     let b = c .before .before .before .before .args .block in
     let r = c .with-triangles .result in
     let low = c .before .before .before .before .args .low .0 in

@@ -39,7 +39,7 @@ added-requires c κs = search needs
 
 -- src/blocks.rt:405:1
 returns-2 : tie.Need-returns-2
-returns-2 c = 
+returns-2 c =
     let b = c .before .before .before .before .before .before .args .block in
     let one = row-one (usedOf (now (c .before .before .before .before .before .before .args .numbers))) (c .before .before .before .before .before .before .args .row) (c .before .before .before .before .before .before .args .k) (ne-eqb _ _ (λ e. c .before .before .if1 .left (c .before .before .before .before .row-place .ensures ∙ e))) in
     subst (λ l. Grown b l (c .added .result)) (ap (λ t. t ∷ []) (c .before .row-tet .ensures) ∙ sym one) (c .added .ensures)
