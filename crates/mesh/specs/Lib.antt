@@ -2,3 +2,4 @@
 pub mod Judge
 pub mod Cutting
 pub mod Signs
+pub mod BlockLoops

@@ -1,6 +1,8 @@
 // Element tables: judged, cut, and counted by sign.
 use faults::Refusal;
 
+mod blocks;
+mod cutting;
 mod judge;
 
 // What judging a table answers.

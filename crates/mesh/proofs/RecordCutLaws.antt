@@ -1,0 +1,96 @@
+-- The cut of a whole record's element: by its row if it is a hexahedron, by the fan if it is not; at most six tetrahedra.
+-- Assumes nothing.
+use mathlib.Core.Path.{_≡_, refl, sym, ap, _∙_, subst}
+use mathlib.Core.List.{List}
+use Prim.Native.Nat.{ℕ, zero, suc, _-_, _≤_, _<_}
+use native.Mathlib.Omega.{arith}
+use lib.Dec.{T, ltb→lt}
+use lib.ListN.{length}
+use Rattle.laws.specs.Words.{lowest}
+use Rattle.solids.specs.declared.Solid.{Solid}
+use Rattle.solids.specs.declared.Solid.the-variants.{Hexahedron}
+use Rattle.solids.specs.Solids.{Tet, element, corners, at, opposite, facesOf}
+use Rattle.solids.specs.Cut.{first, bitsOf, fan, tetsOf, inOrder, cut}
+use Rattle.solids.specs.Rows.{binary, rowOf, cutByRow}
+use Rattle.solids.proofs.NumberingLaws.{inside, lowest-place}
+use Rattle.solids.proofs.ShapeLaws.{Proper, first-inside}
+use Rattle.solids.proofs.RowLaws.{rows-agree}
+use Rattle.records.specs.Record.{kindOf, usedOf, solidOf, elementOf}
+use Rattle.records.specs.Loops.{Whole}
+use Rattle.records.proofs.RecordLaws.{IsOne, is-4, is-5, is-6, is-8, which-kind, kind-corners, kind-small, used-length}
+use Rattle.mesh.specs.BlockLoops.{choice}
+use Rattle.mesh.proofs.CornerLaws.{kind-least}
+use Rattle.mesh.proofs.BlockLaws.{length-inOrder}
+use Rattle.mesh.proofs.ShapeBounds.{tets-few, bits-small, row-small}
+
+from-inside : (n p : ℕ) → T (inside n p) → (1 ≤ p) × (p ≤ n)
+from-inside n zero h = absurd h
+from-inside n (suc i) h = let l = ltb→lt i n h in (omega arith, omega arith)
+
+module _ (r : List ℕ) (w : Whole r) where
+  proper-record : Proper (solidOf (kindOf r)) (usedOf r)
+  proper-record = record { many = used-length r w ∙ sym (kind-corners (kindOf r) (w .kind)); apart-all = w .apart }
+
+  -- the lowest corner's place is a place, and the lowest number stands there
+  pub first-place : (1 ≤ first (usedOf r)) × (first (usedOf r) ≤ 8)
+  first-place =
+      let b = from-inside (corners (solidOf (kindOf r))) (first (usedOf r)) (first-inside (solidOf (kindOf r)) (usedOf r) proper-record) in
+      let e = kind-corners (kindOf r) (w .kind) in
+      let k = kind-small (kindOf r) (w .kind) in
+      (b .0, omega (arith, b .1))
+
+  pub lowest-corner : at (usedOf r) (first (usedOf r)) ≡ lowest (usedOf r)
+  lowest-corner =
+      let e = used-length r w in
+      let k = kind-least (kindOf r) (w .kind) in
+      lowest-place (kindOf r - 1) (usedOf r) (omega arith) .0
+
+  tets-most : length (tetsOf (elementOf r)) ≤ 6
+  unfolding elementOf
+  tets-most = tets-few (solidOf (kindOf r)) (usedOf r) proper-record
+
+  -- at most six tetrahedra
+  pub cut-few : length (cut (elementOf r)) ≤ 6
+  unfolding cut
+  cut-few = rw (length-inOrder (tetsOf (elementOf r))) tets-most
+
+  module _ (e : kindOf r ≡ 8) where
+    is-hexahedron : solidOf (kindOf r) ≡ Hexahedron
+    unfolding solidOf
+    is-hexahedron = rw e
+
+    hexahedron-proper : Proper Hexahedron (usedOf r)
+    hexahedron-proper = subst (λ s. Proper s (usedOf r)) is-hexahedron proper-record
+
+    pub cut-by-row : cutByRow (usedOf r) ≡ cut (elementOf r)
+    unfolding elementOf
+    cut-by-row = rows-agree (usedOf r) hexahedron-proper ∙ ap (λ s. cut (element s (usedOf r))) (sym is-hexahedron)
+
+    pub row-below : rowOf (usedOf r) < 64
+    row-below = row-small (usedOf r) hexahedron-proper
+
+    pub choice-below : binary (bitsOf (usedOf r)) ≤ 7
+    choice-below = bits-small (usedOf r) hexahedron-proper
+
+  module _ (e : kindOf r ≡ 8 → ⊥) where
+    tets-fan : tetsOf (elementOf r) ≡ fan (elementOf r)
+    unfolding elementOf solidOf
+    tets-fan = go (which-kind (kindOf r) (w .kind))
+      where
+        go : IsOne (kindOf r) → tetsOf (element (solidOf (kindOf r)) (usedOf r)) ≡ fan (element (solidOf (kindOf r)) (usedOf r))
+        go (is-4 q) = rw q
+        go (is-5 q) = rw q
+        go (is-6 q) = rw q
+        go (is-8 q) = absurd (e q)
+
+    pub cut-by-fan : inOrder (fan (elementOf r)) ≡ cut (elementOf r)
+    unfolding cut
+    cut-by-fan = ap inOrder (sym tets-fan)
+
+    pub fan-few : length (fan (elementOf r)) ≤ 6
+    fan-few = rw tets-fan at tets-most
+
+-- the choice of far diagonals is that of the faces that do not hold the lowest corner
+pub choice-is : (vs : List ℕ) {low high : ℕ} → low ≡ lowest vs → high ≡ at vs (opposite (first vs)) → choice low high (facesOf (element Hexahedron vs)) ≡ binary (bitsOf vs)
+unfolding choice
+choice-is vs p q = rw (p, q)

@@ -1,0 +1,46 @@
+-- Tetrahedra as numbers, one after the other, and stored one after the other.
+-- Assumes nothing.
+use mathlib.Core.Path.{_≡_, refl, sym, ap, _∙_}
+use mathlib.Core.List.{List, [], _∷_, _++_, map, map-append, append-assoc}
+use Prim.Native.Nat.{ℕ, zero, suc, _+_, _*_, _≤_, _<_}
+use native.Mathlib.Omega.{arith}
+use lib.ListN.{length, take, getD, length-append, length-map}
+use lib.Seq.{take-suc, length-take-le}
+use Rattle.laws.specs.Words.{gather}
+use Rattle.laws.specs.Lent.{placed}
+use Rattle.laws.proofs.LentLaws.{placed-placed}
+use Rattle.solids.specs.Solids.{Tet, tet, ofTet}
+use Rattle.mesh.specs.Cutting.{tetWidth, flat}
+use Rattle.mesh.specs.declared.blocks.Tet as code
+use Rattle.mesh.specs.BlockLoops.{tetOf}
+
+pub gather-append : {A B : Type 0} (f : A → List B) (xs ys : List A) → gather f (xs ++ ys) ≡ gather f xs ++ gather f ys
+gather-append f [] ys = refl
+gather-append f (x ∷ xs) ys = ap (λ l. f x ++ l) (gather-append f xs ys) ∙ sym (append-assoc (f x) (gather f xs) (gather f ys))
+
+pub flat-append : (x y : List (Tet ℕ)) → flat (x ++ y) ≡ flat x ++ flat y
+unfolding flat
+flat-append x y = gather-append ofTet x y
+
+pub length-flat : (x : List (Tet ℕ)) → length (flat x) ≡ tetWidth * length x
+unfolding flat
+length-flat [] = refl
+length-flat (tet a b c d ∷ x) = omega (arith, length-flat x)
+
+-- tetrahedra placed right after others
+pub placed-after : (l : List ℕ) (at : ℕ) (x y : List (Tet ℕ)) {m : ℕ} → m ≡ at + tetWidth * length x → at + tetWidth * length x ≤ length l
+    → placed (placed l at (flat x)) m (flat y) ≡ placed l at (flat (x ++ y))
+placed-after l at x y e h =
+    let f = length-flat x in
+    let g : _ ≡ at + length (flat x) = e ∙ ap (λ (n : ℕ). at + n) (sym f) in
+    ap (λ (n : ℕ). placed (placed l at (flat x)) n (flat y)) g
+    ∙ placed-placed l at (flat x) (omega arith) (flat y)
+    ∙ ap (placed l at) (sym (flat-append x y))
+
+-- one tetrahedron more of an array
+pub placed-next : (l : List ℕ) (at : ℕ) (b : List code.Tet) (k : ℕ) (d : code.Tet) → k < length b → at + tetWidth * k ≤ length l
+    → placed (placed l at (flat (map tetOf (take k b)))) (at + tetWidth * k) (flat (tetOf (getD b k d) ∷ [])) ≡ placed l at (flat (map tetOf (take (suc k) b)))
+placed-next l at b k d h room =
+    let m : length (map tetOf (take k b)) ≡ k = length-map (take k b) tetOf ∙ length-take-le k b (omega arith) in
+    placed-after l at (map tetOf (take k b)) (tetOf (getD b k d) ∷ []) (omega arith) (omega arith)
+    ∙ ap (λ ts. placed l at (flat ts)) (sym (ap (map tetOf) (take-suc b k d h) ∙ map-append tetOf (take k b) (getD b k d ∷ [])))

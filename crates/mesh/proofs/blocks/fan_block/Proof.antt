@@ -1,0 +1,146 @@
+-- The loop goes from the last face to the first; it keeps the tetrahedra of the faces behind it in order.
+-- Assumes nothing.
+use mathlib.Core.Path.{_≡_, refl, sym, ap, _∙_, subst}
+use mathlib.Core.List.{List, [], _∷_, _++_, map}
+use Prim.Native.Nat.{ℕ, suc, _+_, _-_, _≤_, _<_}
+use native.Mathlib.Nat.{le-refl}
+use native.Mathlib.Omega.{arith}
+use denote.Ref.{now}
+use borrow.Author.Needs.{needs}
+use lib.ListN.{length, drop, length-map, length-append, drop-of-length-le}
+use Rattle.solids.specs.declared.Solid.{Solid}
+use Rattle.solids.specs.Solids.{Face, Tet, element, faces, faceCount, facesOf, at, onFace}
+use Rattle.laws.specs.Words.{lowest}
+use Rattle.solids.specs.Cut.{first, fan, inOrder}
+use Rattle.records.specs.Loops.{Whole}
+use Rattle.records.specs.Record.{kindOf, usedOf, solidOf, elementOf}
+use Rattle.mesh.specs.declared.blocks.Block.{Block}
+use Rattle.mesh.specs.BlockLoops.{BlockIs, Grown, faceIn, faceTets}
+use Rattle.mesh.proofs.BlockLaws.{length-inOrder, grown-block}
+use Rattle.mesh.proofs.FaceLaws.{face-next}
+use Rattle.mesh.proofs.FanLaws.{fanOver, fan-next, fan-drop}
+use Rattle.mesh.proofs.RecordCutLaws.{lowest-corner}
+use Rattle.mesh.proofs.blocks.fan_block.Statement.{statement}
+use Rattle.mesh.proofs.blocks.fan_block.Tie as tie
+
+-- the fan of the faces behind the first i
+abbrev from : Solid → List ℕ → ℕ → ℕ → List (Tet ℕ)
+from s vs v i = fanOver v (drop i (facesOf (element s vs)))
+
+record Kept (s : Solid) (vs : List ℕ) (v : ℕ) (b : Block) (i : ℕ) : Type 0 where
+  few : length (from s vs v 0) ≤ 6
+  up : i ≤ faceCount s
+  same : BlockIs b (inOrder (from s vs v i))
+
+module _ {s : Solid} {vs : List ℕ} {v : ℕ} {b : Block} {i : ℕ} (k : Kept s vs v b i) (h : 0 < i) where
+  next : from s vs v (i - 1) ≡ faceTets v (faceIn s vs (i - 1)) ++ from s vs v i
+  next =
+      let e : suc (i - 1) ≡ i = omega arith in
+      ap (fanOver v) (face-next s vs (i - 1) (omega (arith, k .up)) ∙ ap (λ (j : ℕ). faceIn s vs (i - 1) ∷ drop j (facesOf (element s vs))) e)
+      ∙ fan-next v (faceIn s vs (i - 1)) (drop i (facesOf (element s vs)))
+
+  room : {F : Face ℕ} → F ≡ faceIn s vs (i - 1) → b .count + length (faceTets v F) ≤ 6
+  room {F} e =
+      let f : length (faceTets v F) ≡ length (faceTets v (faceIn s vs (i - 1))) = ap (λ G. length (faceTets v G)) e in
+      let n = ap length next ∙ length-append (faceTets v (faceIn s vs (i - 1))) (from s vs v i) in
+      let m = length-inOrder (from s vs v i) in
+      omega (arith, k .same .many, k .few, fan-drop v (i - 1) (facesOf (element s vs)))
+
+  step : {F : Face ℕ} {r : Block} → F ≡ faceIn s vs (i - 1) → Grown b (faceTets v F) r → Kept s vs v r (i - 1)
+  step {F} {r} e g = record {
+    few = k .few;
+    up = omega (arith, k .up);
+    same =
+        subst (λ ts. BlockIs r (inOrder ts)) (ap (λ G. faceTets v G ++ from s vs v i) e ∙ sym next)
+        (grown-block (from s vs v i) (k .same) g (room e));
+  }
+
+-- the fan of all faces is that of the record's element
+module _ (r : List ℕ) (w : Whole r) {s : Solid} {p v : ℕ} (hs : s ≡ solidOf (kindOf r)) (hp : p ≡ first (usedOf r)) (hv : v ≡ at (usedOf r) p) where
+  low : v ≡ lowest (usedOf r)
+  low = hv ∙ ap (at (usedOf r)) hp ∙ lowest-corner r w
+
+  all : from s (usedOf r) v 0 ≡ fan (elementOf r)
+  unfolding elementOf
+  all = λ i. from (hs i) (usedOf r) (low i) 0
+
+none : (s : Solid) (vs : List ℕ) (n : ℕ) → n ≡ faceCount s → drop n (facesOf (element s vs)) ≡ []
+none s vs n e = drop-of-length-le (facesOf (element s vs)) {i = n} (rw (length-map (faces s) (onFace (at vs)), e) (le-refl (faceCount s)))
+
+abbrev Inv-loop : tie.InvT-loop
+Inv-loop numbers solid low block₀ i₀ block i = Kept solid (usedOf numbers) (low .0) block i
+
+abbrev μ-loop : tie.MeasureT-loop
+μ-loop numbers solid low block₀ i₀ block i = i
+
+solid-in-requires : tie.Need-solid-in-requires Inv-loop μ-loop
+solid-in-requires c κs = c .before .pre .0
+
+lowest-place-requires : tie.Need-lowest-place-requires Inv-loop μ-loop
+lowest-place-requires c κs = c .before .before .pre .0
+
+corner-requires : tie.Need-corner-requires Inv-loop μ-loop
+corner-requires c κs = c .before .before .before .pre .0
+
+no-tets-requires : tie.Need-no-tets-requires Inv-loop μ-loop
+no-tets-requires c κs = search needs
+
+face-count-requires : tie.Need-face-count-requires Inv-loop μ-loop
+face-count-requires c κs = search needs
+
+loop-holds : tie.Need-loop-holds Inv-loop μ-loop
+loop-holds c =
+    let r = now (c .before .before .before .before .before .before .args .numbers) in
+    let s = c .before .before .before .before .solid-in .result in
+    let v = c .before .before .corner .result .0 in
+    let n = c .face-count .result in
+    let e = all r (c .before .before .before .before .before .before .pre .0) (c .before .before .before .before .solid-in .ensures) (c .before .before .before .lowest-place .ensures) (c .before .before .corner .ensures) in
+    let l = ap length e in
+    record {
+      few = omega (arith, l, c .before .before .before .before .before .before .pre .1);
+      up = omega (arith, c .face-count .ensures);
+      same = subst (λ fs. BlockIs (c .before .no-tets .result) (inOrder (fanOver v fs))) (sym (none s (usedOf r) n (c .face-count .ensures))) (c .before .no-tets .ensures);
+    }
+
+sub-i : tie.Need-sub-i Inv-loop μ-loop
+sub-i c = omega arith
+
+face-of-requires : tie.Need-face-of-requires Inv-loop μ-loop
+face-of-requires c κs = c .before .before .before .before .before .before .before .before .pre .0
+
+with-face-requires : tie.Need-with-face-requires Inv-loop μ-loop
+with-face-requires c κs = room (c .before .before .loop .inv) (c .before .loop-test .taken) (c .face-of .ensures)
+
+loop-less : tie.Need-loop-less Inv-loop μ-loop
+loop-less c = omega arith
+
+loop-again : tie.Need-loop-again Inv-loop μ-loop
+loop-again c = step (c .before .before .before .loop .inv) (c .before .before .loop-test .taken) (c .before .face-of .ensures) (c .with-face .ensures)
+
+returns : tie.Need-returns Inv-loop μ-loop
+returns c =
+    let z : c .before .loop .i ≡ 0 = omega arith in
+    let r = now (c .before .before .before .before .before .before .before .before .args .numbers) in
+    let s = c .before .before .before .before .before .before .solid-in .result in
+    let v = c .before .before .before .before .corner .result .0 in
+    let e = all r (c .before .before .before .before .before .before .before .before .pre .0) (c .before .before .before .before .before .before .solid-in .ensures) (c .before .before .before .before .before .lowest-place .ensures) (c .before .before .before .before .corner .ensures) in
+    subst (λ ts. BlockIs (c .before .loop .block) (inOrder ts)) (ap (λ (i : ℕ). from s (usedOf r) v i) z ∙ e) (c .before .loop .inv .same)
+
+pub fan-block-spec : {M : Type 1} → statement M
+fan-block-spec =
+    tie.close
+    (tie.spec
+    Inv-loop
+    μ-loop
+    solid-in-requires
+    lowest-place-requires
+    corner-requires
+    no-tets-requires
+    face-count-requires
+    loop-holds
+    sub-i
+    face-of-requires
+    with-face-requires
+    loop-less
+    loop-again
+    returns)

@@ -1,0 +1,108 @@
+-- The loop keeps the tetrahedra before k placed.
+-- Assumes nothing.
+use mathlib.Core.Path.{_≡_, refl, sym, ap, _∙_}
+use mathlib.Core.List.{List, [], _∷_, map}
+use Prim.Native.Nat.{ℕ, suc, _+_, _*_, _-_, _≤_, _<_}
+use native.Mathlib.Numerals.{add-one}
+use native.Mathlib.Omega.{arith}
+use borrow.Author.Needs.{needs}
+use lib.ListN.{length, take, getD}
+use Rattle.laws.specs.Lent.{placed}
+use Rattle.laws.proofs.LentLaws.{placed-none}
+use Rattle.mesh.specs.Cutting.{tetWidth, flat}
+use Rattle.mesh.specs.declared.blocks.Tet as code
+use Rattle.mesh.specs.BlockLoops.{tetOf}
+use Rattle.mesh.proofs.StoreLaws.{placed-next}
+use Rattle.mesh.proofs.InsertLaws.{none}
+use Rattle.mesh.proofs.cutting.put_tets.Statement.{statement}
+use Rattle.mesh.proofs.cutting.put_tets.Tie as tie
+
+record Kept (l₀ : List ℕ) (at n : ℕ) (b : List code.Tet) (l : List ℕ) (k : ℕ) : Type 0 where
+  few : n ≤ 6
+  room : at + tetWidth * n ≤ length l₀
+  up : k ≤ n
+  long : length b ≡ 6
+  size : length l ≡ length l₀
+  same : l ≡ placed l₀ at (flat (map tetOf (take k b)))
+
+step : {l₀ : List ℕ} {at n : ℕ} {b : List code.Tet} {l : List ℕ} {k : ℕ} → Kept l₀ at n b l k → k < n → (d : code.Tet) {l′ : List ℕ}
+    → l′ ≡ placed l (at + tetWidth * k) (flat (tetOf (getD b k d) ∷ [])) → length l′ ≡ length l → Kept l₀ at n b l′ (k + 1)
+step {l₀} {at} {n} {b} {k} h t d e s = record {
+  few = h .few;
+  room = h .room;
+  up = omega arith;
+  long = h .long;
+  size = s ∙ h .size;
+  same =
+      rw (add-one k)
+      (e ∙ ap (λ (x : List ℕ). placed x (at + tetWidth * k) (flat (tetOf (getD b k d) ∷ []))) (h .same)
+      ∙ placed-next l₀ at b k d (omega (arith, h .long, h .few)) (omega (arith, h .room)));
+}
+
+abbrev Inv-loop : tie.InvT-loop
+Inv-loop out₀ at n tets k₀ out k = Kept out₀ at n tets out k
+
+abbrev μ-loop : tie.MeasureT-loop
+μ-loop out₀ at n tets k₀ out k = n - k
+
+loop-holds : tie.Need-loop-holds Inv-loop μ-loop
+unfolding flat
+loop-holds c = record {
+  few = c .before .pre .0;
+  room = c .before .pre .1;
+  up = omega arith;
+  long = search needs;
+  size = refl;
+  same = sym (placed-none _ _);
+}
+
+mul-t : tie.Need-mul-t Inv-loop μ-loop
+mul-t c = omega arith
+
+array-copy-out-t : tie.Need-array-copy-out-t Inv-loop μ-loop
+array-copy-out-t c = omega arith
+
+mul-put-tet : tie.Need-mul-put-tet Inv-loop μ-loop
+mul-put-tet c = omega arith
+
+add-put-tet : tie.Need-add-put-tet Inv-loop μ-loop
+add-put-tet c = omega arith
+
+put-tet-requires : tie.Need-put-tet-requires Inv-loop μ-loop
+put-tet-requires c κs = omega arith
+
+add-k : tie.Need-add-k Inv-loop μ-loop
+add-k c = omega arith
+
+loop-less : tie.Need-loop-less Inv-loop μ-loop
+loop-less c = omega arith
+
+loop-again : tie.Need-loop-again Inv-loop μ-loop
+loop-again c = step (c .before .before .before .before .before .before .loop .inv) (c .before .before .before .before .before .loop-test .taken) none (c .before .before .put-tet .ensures) (c .before .before .put-tet .kept .0)
+
+same-length : tie.Need-same-length Inv-loop μ-loop
+same-length c = c .before .loop .inv .size
+
+returns : tie.Need-returns Inv-loop μ-loop
+returns c =
+    let h = c .before .loop .inv in
+    let e : c .before .loop .k ≡ c .before .before .before .args .n = omega arith in
+    rw (← e) (h .same)
+
+pub put-tets-spec : {M : Type 1} → statement M
+put-tets-spec =
+    tie.close
+    (tie.spec
+    Inv-loop
+    μ-loop
+    loop-holds
+    mul-t
+    array-copy-out-t
+    mul-put-tet
+    add-put-tet
+    put-tet-requires
+    add-k
+    loop-less
+    loop-again
+    same-length
+    returns)

@@ -1,0 +1,537 @@
+// An element's tetrahedra, as the page writes them and in its order.
+use solids::Place;
+use solids::Solid;
+use solids::Vertex;
+ghost use mathlib.Core.Path.{_≡_};
+ghost use mathlib.Core.Bool.{_||_};
+ghost use mathlib.Core.List.{[], _∷_, map};
+ghost use Prim.Native.Nat.{min, _+_, _*_, _≤_, _<_};
+ghost use lib.ListN.{length, take};
+ghost use Rattle.laws.specs.Words.{among, lowest};
+ghost use Rattle.solids.specs.declared.Solid.the-variants.{Hexahedron};
+ghost use Rattle.solids.specs.Solids.{four, element, ofTet, onTet, at, opposite, holds, facesOf};
+ghost use Rattle.solids.specs.Cut.{lowestFirst, halves, follow, first, onDiagonal, fan, secondLowest, written, upTo, insert, inOrder, cut};
+ghost use Rattle.solids.specs.Rows.{rowPlace, rowOf, cutByRow};
+ghost use Rattle.records.specs.Record.{kindOf, usedOf, solidOf, elementOf};
+ghost use Rattle.records.specs.Loops.{Whole};
+ghost use Rattle.mesh.specs.BlockLoops.{tetOf, faceOf, Grown, BlockIs, faceIn, faceTets, choice, withBit, rowTet, rowTetsAt};
+
+// A tetrahedron in vertex numbers.
+pub struct Tet {
+    pub a: Vertex,
+    pub b: Vertex,
+    pub c: Vertex,
+    pub d: Vertex,
+}
+
+// A face in vertex numbers.
+pub enum Face {
+    Three(Vertex, Vertex, Vertex),
+    Four(Vertex, Vertex, Vertex, Vertex),
+}
+
+// The first `count` of six tetrahedra.
+pub struct Block {
+    pub tets: [Tet; 6],
+    pub count: usize,
+}
+
+// The place opposite to a place of the hexahedron; that to none is none.
+const OPPOSITE: [u8; 9] = [0, 7, 8, 5, 6, 3, 4, 1, 2];
+
+// The lower of two numbers.
+fn lesser(a: Vertex, b: Vertex) -> Vertex
+    ensures { λ r. ⌜ r .0 ≡ min (a .0) (b .0) ⌝ }
+{
+    if a.0 <= b.0 {
+        return a;
+    }
+    b
+}
+
+// The lowest of three numbers.
+fn lowest_of_three(a: Vertex, b: Vertex, c: Vertex) -> Vertex
+    ensures { λ r. ⌜ r .0 ≡ lowest (a .0 ∷ b .0 ∷ c .0 ∷ []) ⌝ }
+{
+    lesser(a, lesser(b, c))
+}
+
+// The lowest of four numbers.
+fn lowest_of_four(a: Vertex, b: Vertex, c: Vertex, d: Vertex) -> Vertex
+    ensures { λ r. ⌜ r .0 ≡ lowest (a .0 ∷ b .0 ∷ c .0 ∷ d .0 ∷ []) ⌝ }
+{
+    lesser(a, lowest_of_three(b, c, d))
+}
+
+// The lowest of the last three second, by turning those three.
+fn second_lowest(t: Tet) -> Tet
+    ensures { λ r. ⌜ tetOf r ≡ secondLowest (tetOf t) ⌝ }
+{
+    let a = t.a;
+    let b = t.b;
+    let c = t.c;
+    let d = t.d;
+    let m = lowest_of_three(b, c, d);
+    if b.0 == m.0 {
+        return t;
+    }
+    if c.0 == m.0 {
+        return Tet {
+            a: a,
+            b: c,
+            c: d,
+            d: b,
+        };
+    }
+    Tet {
+        a: a,
+        b: d,
+        c: b,
+        d: c,
+    }
+}
+
+// The lowest number first, by an exchange of two pairs, and then the lowest of the other three.
+fn written_form(t: Tet) -> Tet
+    ensures { λ r. ⌜ tetOf r ≡ written (tetOf t) ⌝ }
+{
+    let a = t.a;
+    let b = t.b;
+    let c = t.c;
+    let d = t.d;
+    let m = lowest_of_four(a, b, c, d);
+    if a.0 == m.0 {
+        return second_lowest(t);
+    }
+    if b.0 == m.0 {
+        return second_lowest(Tet {
+            a: b,
+            b: a,
+            c: d,
+            d: c,
+        });
+    }
+    if c.0 == m.0 {
+        return second_lowest(Tet {
+            a: c,
+            b: d,
+            c: a,
+            d: b,
+        });
+    }
+    second_lowest(Tet {
+        a: d,
+        b: c,
+        c: b,
+        d: a,
+    })
+}
+
+// Not above, compared number by number.
+fn up_to(t: Tet, u: Tet) -> bool
+    ensures { λ r. ⌜ r ≡ upTo (ofTet (tetOf t)) (ofTet (tetOf u)) ⌝ }
+{
+    if t.a.0 != u.a.0 {
+        return t.a.0 < u.a.0;
+    }
+    if t.b.0 != u.b.0 {
+        return t.b.0 < u.b.0;
+    }
+    if t.c.0 != u.c.0 {
+        return t.c.0 < u.c.0;
+    }
+    t.d.0 <= u.d.0
+}
+
+// Whether the tetrahedron in hand goes before u: one that made room for another always does.
+fn goes_before(moved: bool, t: Tet, u: Tet) -> bool
+    ensures { λ r. ⌜ r ≡ (moved || upTo (ofTet (tetOf t)) (ofTet (tetOf u))) ⌝ }
+{
+    if moved {
+        return true;
+    }
+    up_to(t, u)
+}
+
+// A tetrahedron put before the first of n that is not below it; the later ones make room.
+fn insert_into(tets: [Tet; 6], n: usize, t: Tet) -> [Tet; 6]
+    requires { ⌜ n < 6 ⌝ }
+    ensures { λ r. ⌜ map tetOf (take (n + 1) r) ≡ insert (tetOf t) (map tetOf (take n tets)) ⌝ }
+{
+    let mut out = tets;
+    let mut hand = t;
+    let mut moved = false;
+    let mut i = 0;
+    while i < n {
+        let u = out[i];
+        if goes_before(moved, hand, u) {
+            out[i] = hand;
+            hand = u;
+            moved = true;
+        }
+        i += 1;
+    }
+    out[n] = hand;
+    out
+}
+
+// A block with a tetrahedron more, in its written form and at its place.
+fn added(block: Block, t: Tet) -> Block
+    requires { ⌜ block .count < 6 ⌝ }
+    ensures { λ r. ⌜ Grown block (tetOf t ∷ []) r ⌝ }
+{
+    let n = block.count;
+    let old = block.tets;
+    let tets = insert_into(old, n, written_form(t));
+    Block {
+        tets: tets,
+        count: n + 1,
+    }
+}
+
+// A block of none.
+fn no_tets() -> Block
+    ensures { λ r. ⌜ BlockIs r [] ⌝ }
+{
+    let none = Tet {
+        a: Vertex(0),
+        b: Vertex(0),
+        c: Vertex(0),
+        d: Vertex(0),
+    };
+    Block {
+        tets: [none; 6],
+        count: 0,
+    }
+}
+
+// The kind of a record.
+fn kind_of(numbers: &[u16]) -> u16
+    requires { ⌜ Whole (now numbers) ⌝ }
+    ensures { λ r. ⌜ r ≡ kindOf (now (numbers .entry)) ⌝ }
+{
+    numbers[0]
+}
+
+// The solid of a record.
+fn solid_in(numbers: &[u16]) -> Solid
+    requires { ⌜ Whole (now numbers) ⌝ }
+    ensures { λ r. ⌜ r ≡ solidOf (kindOf (now (numbers .entry))) ⌝ }
+{
+    let kind = kind_of(numbers);
+    if kind == 4 {
+        return Solid::Tetrahedron;
+    }
+    if kind == 5 {
+        return Solid::Pyramid;
+    }
+    if kind == 6 {
+        return Solid::Prism;
+    }
+    Solid::Hexahedron
+}
+
+// The vertex at a place of a record; none at a place that its solid does not have.
+fn corner(numbers: &[u16], place: Place) -> Vertex
+    requires { ⌜ Whole (now numbers) ⌝ }
+    ensures { λ r. ⌜ r .0 ≡ at (usedOf (now (numbers .entry))) (place .0) ⌝ }
+{
+    let kind = kind_of(numbers);
+    if place.0 == 0 {
+        return Vertex(0);
+    }
+    if kind < (place.0 as u16) {
+        return Vertex(0);
+    }
+    let i = place.0 as usize;
+    Vertex(numbers[i])
+}
+
+// The place of the lowest number.
+fn lowest_place(numbers: &[u16]) -> Place
+    requires { ⌜ Whole (now numbers) ⌝ }
+    ensures { λ r. ⌜ r .0 ≡ first (usedOf (now (numbers .entry))) ⌝ }
+{
+    let last = kind_of(numbers) as u8;
+    let mut place = last;
+    let mut number = corner(numbers, Place(last)).0;
+    let mut i = last - 1;
+    while 0 < i {
+        let v = corner(numbers, Place(i)).0;
+        if v <= number {
+            place = i;
+            number = v;
+        }
+        i -= 1;
+    }
+    Place(place)
+}
+
+// The place opposite to a place of the hexahedron.
+fn opposite_place(place: Place) -> Place
+    requires { ⌜ place .0 ≤ 8 ⌝ }
+    ensures { λ r. ⌜ r .0 ≡ opposite (place .0) ⌝ }
+{
+    let i = place.0 as usize;
+    Place(OPPOSITE[i])
+}
+
+// The face i, from 0, of a record whose solid is given.
+fn face_of(numbers: &[u16], solid: Solid, i: usize) -> Face
+    requires { ⌜ Whole (now numbers) ⌝ }
+    ensures { λ r. ⌜ faceOf r ≡ faceIn solid (usedOf (now (numbers .entry))) i ⌝ }
+{
+    let p = corner(numbers, solids::face_place(solid, i, 0));
+    let q = corner(numbers, solids::face_place(solid, i, 1));
+    let r = corner(numbers, solids::face_place(solid, i, 2));
+    let last = solids::face_place(solid, i, 3);
+    if last.0 == 0 {
+        return Face::Three(p, q, r);
+    }
+    Face::Four(p, q, r, corner(numbers, last))
+}
+
+// A vertex is one of three.
+fn among_three(v: Vertex, p: Vertex, q: Vertex, r: Vertex) -> bool
+    ensures { λ b. ⌜ b ≡ among (v .0) (p .0 ∷ q .0 ∷ r .0 ∷ []) ⌝ }
+{
+    if v.0 == p.0 {
+        return true;
+    }
+    if v.0 == q.0 {
+        return true;
+    }
+    v.0 == r.0
+}
+
+// A face has a vertex as a corner.
+fn is_corner(v: Vertex, face: Face) -> bool
+    ensures { λ b. ⌜ b ≡ holds (v .0) (faceOf face) ⌝ }
+{
+    match face {
+        Face::Three(p, q, r) => among_three(v, p, q, r),
+        Face::Four(p, q, r, s) => {
+            if v.0 == p.0 {
+                return true;
+            }
+            among_three(v, q, r, s)
+        }
+    }
+}
+
+// The cycle p q r s read from its lowest number on.
+fn turned_face(p: Vertex, q: Vertex, r: Vertex, s: Vertex) -> Face
+    ensures { λ f. ⌜ faceOf f ≡ lowestFirst (four (p .0) (q .0) (r .0) (s .0)) ⌝ }
+{
+    let m = lowest_of_four(p, q, r, s);
+    if p.0 == m.0 {
+        return Face::Four(p, q, r, s);
+    }
+    if q.0 == m.0 {
+        return Face::Four(q, r, s, p);
+    }
+    if r.0 == m.0 {
+        return Face::Four(r, s, p, q);
+    }
+    Face::Four(s, p, q, r)
+}
+
+// A four-cornered face turned so that its lowest number comes first.
+fn lowest_first(face: Face) -> Face
+    ensures { λ f. ⌜ faceOf f ≡ lowestFirst (faceOf face) ⌝ }
+{
+    match face {
+        Face::Three(p, q, r) => Face::Three(p, q, r),
+        Face::Four(p, q, r, s) => turned_face(p, q, r, s),
+    }
+}
+
+// The diagonal of a turned face goes through a vertex.
+fn on_diagonal(v: Vertex, face: Face) -> bool
+    ensures { λ b. ⌜ b ≡ onDiagonal (v .0) (faceOf face) ⌝ }
+{
+    match face {
+        Face::Three(_, _, _) => false,
+        Face::Four(p, _, r, _) => {
+            if v.0 == p.0 {
+                return true;
+            }
+            v.0 == r.0
+        }
+    }
+}
+
+// The choice of diagonals with the bit of one more face, if that is far from the lowest corner.
+fn with_bit(number: usize, low: Vertex, high: Vertex, face: Face) -> usize
+    requires { ⌜ number ≤ 7 ⌝ }
+    ensures { λ r. ⌜ r ≡ withBit (low .0) (high .0) (faceOf face) number ⌝ }
+{
+    if is_corner(low, face) {
+        return number;
+    }
+    if on_diagonal(high, lowest_first(face)) {
+        return 1 + 2 * number;
+    }
+    2 * number
+}
+
+// The choice of far diagonals of a hexahedron, the bit of its first far face last.
+fn diagonals(numbers: &[u16], low: Vertex, high: Vertex) -> usize
+    requires { ⌜ Whole (now numbers) ⌝ }
+    requires { ⌜ choice (low .0) (high .0) (facesOf (element Hexahedron (usedOf (now numbers)))) ≤ 7 ⌝ }
+    ensures { λ r. ⌜ r ≡ choice (low .0) (high .0) (facesOf (element Hexahedron (usedOf (now (numbers .entry))))) ⌝ }
+{
+    let mut number = 0;
+    let mut i = 6;
+    while 0 < i {
+        i -= 1;
+        let face = face_of(numbers, Solid::Hexahedron, i);
+        number = with_bit(number, low, high, face);
+    }
+    number
+}
+
+// The row of a hexahedron: that of its lowest corner and its three far diagonals.
+fn row_of(numbers: &[u16]) -> usize
+    requires { ⌜ Whole (now numbers) ⌝ }
+    requires { ⌜ kindOf (now numbers) ≡ 8 ⌝ }
+    ensures { λ r. ⌜ r ≡ rowOf (usedOf (now (numbers .entry))) ⌝ }
+{
+    let place = lowest_place(numbers);
+    let low = corner(numbers, place);
+    let high = corner(numbers, opposite_place(place));
+    let number = diagonals(numbers, low, high);
+    8 * (place.0 as usize - 1) + number
+}
+
+// The vertex of a record at the place `place` of a row of cuts.
+fn row_corner(numbers: &[u16], row: usize, place: usize) -> Vertex
+    requires { ⌜ Whole (now numbers) ⌝ }
+    ensures { λ r. ⌜ r .0 ≡ at (usedOf (now (numbers .entry))) (rowPlace row place) ⌝ }
+{
+    corner(numbers, solids::row_place(row, place))
+}
+
+// The tetrahedron k, from 0, of a row of cuts, in vertex numbers.
+fn row_tet(numbers: &[u16], row: usize, k: usize) -> Tet
+    requires { ⌜ Whole (now numbers) ⌝ }
+    requires { ⌜ k < 6 ⌝ }
+    ensures { λ t. ⌜ tetOf t ≡ onTet (at (usedOf (now (numbers .entry)))) (rowTet row k) ⌝ }
+{
+    Tet {
+        a: row_corner(numbers, row, 4 * k),
+        b: row_corner(numbers, row, 4 * k + 1),
+        c: row_corner(numbers, row, 4 * k + 2),
+        d: row_corner(numbers, row, 4 * k + 3),
+    }
+}
+
+// A block with the tetrahedron k of a row of cuts, unless that is four zeros.
+fn with_row_tet(block: Block, numbers: &[u16], row: usize, k: usize) -> Block
+    requires { ⌜ Whole (now numbers) ⌝ }
+    requires { ⌜ k < 6 ⌝ }
+    requires { ⌜ block .count < 6 ⌝ }
+    ensures { λ r. ⌜ Grown block (rowTetsAt (usedOf (now (numbers .entry))) row k) r ⌝ }
+{
+    let p = solids::row_place(row, 4 * k);
+    if p.0 == 0 {
+        return block;
+    }
+    added(block, row_tet(numbers, row, k))
+}
+
+// A hexahedron's tetrahedra, by its row.
+fn row_block(numbers: &[u16]) -> Block
+    requires { ⌜ Whole (now numbers) ⌝ }
+    requires { ⌜ kindOf (now numbers) ≡ 8 ⌝ }
+    ensures { λ r. ⌜ BlockIs r (cutByRow (usedOf (now (numbers .entry)))) ⌝ }
+{
+    let row = row_of(numbers);
+    let mut block = no_tets();
+    let mut k = 6;
+    while 0 < k {
+        k -= 1;
+        let next = with_row_tet(block, numbers, row, k);
+        block = next;
+    }
+    block
+}
+
+// A block with a vertex followed by each triangle of a face.
+fn with_triangles(block: Block, v: Vertex, face: Face) -> Block
+    requires { ⌜ block .count + length (halves (faceOf face)) ≤ 6 ⌝ }
+    ensures { λ r. ⌜ Grown block (map (follow (v .0)) (halves (faceOf face))) r ⌝ }
+{
+    match face {
+        Face::Three(p, q, r) => added(
+            block,
+            Tet {
+                a: v,
+                b: p,
+                c: q,
+                d: r,
+            },
+        ),
+        Face::Four(p, q, r, s) => {
+            let later = added(
+                block,
+                Tet {
+                    a: v,
+                    b: p,
+                    c: r,
+                    d: s,
+                },
+            );
+            added(
+                later,
+                Tet {
+                    a: v,
+                    b: p,
+                    c: q,
+                    d: r,
+                },
+            )
+        }
+    }
+}
+
+// A block with the lowest corner followed by each triangle of a cut face, if that is far from it.
+fn with_face(block: Block, low: Vertex, face: Face) -> Block
+    requires { ⌜ block .count + length (faceTets (low .0) (faceOf face)) ≤ 6 ⌝ }
+    ensures { λ r. ⌜ Grown block (faceTets (low .0) (faceOf face)) r ⌝ }
+{
+    if is_corner(low, face) {
+        return block;
+    }
+    with_triangles(block, low, lowest_first(face))
+}
+
+// The lowest corner followed by each triangle of the cut faces that do not hold it.
+fn fan_block(numbers: &[u16]) -> Block
+    requires { ⌜ Whole (now numbers) ⌝ }
+    requires { ⌜ length (fan (elementOf (now numbers))) ≤ 6 ⌝ }
+    ensures { λ r. ⌜ BlockIs r (inOrder (fan (elementOf (now (numbers .entry))))) ⌝ }
+{
+    let solid = solid_in(numbers);
+    let low = corner(numbers, lowest_place(numbers));
+    let mut block = no_tets();
+    let mut i = solids::face_count(solid);
+    while 0 < i {
+        i -= 1;
+        let face = face_of(numbers, solid, i);
+        let next = with_face(block, low, face);
+        block = next;
+    }
+    block
+}
+
+// The tetrahedra of a record's element: the hexahedron's by its row, the others' by the rule.
+pub fn block_of(numbers: &[u16]) -> Block
+    requires { ⌜ Whole (now numbers) ⌝ }
+    ensures { λ r. ⌜ BlockIs r (cut (elementOf (now (numbers .entry)))) ⌝ }
+{
+    if kind_of(numbers) == 8 {
+        return row_block(numbers);
+    }
+    fan_block(numbers)
+}

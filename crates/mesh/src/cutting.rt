@@ -1,0 +1,97 @@
+// The tetrahedra of a table: counted, and stored one after the other.
+use crate::blocks;
+use crate::blocks::Tet;
+ghost use mathlib.Core.Path.{_≡_};
+ghost use mathlib.Core.List.{[], _∷_, map};
+ghost use Prim.Native.Nat.{_+_, _*_, _≤_};
+ghost use lib.ListN.{length, take};
+ghost use Rattle.laws.specs.Lent.{laid, placed};
+ghost use Rattle.solids.specs.Cut.{cut, cutMesh};
+ghost use Rattle.records.specs.Record.{width, elementOf, recordAt, firstElements};
+ghost use Rattle.records.specs.Loops.{Whole, WholeTable};
+ghost use Rattle.mesh.specs.Cutting.{tetWidth, flat};
+ghost use Rattle.mesh.specs.BlockLoops.{tetOf, Stored, Counted};
+
+// How many numbers a record has.
+const RECORD: usize = 9;
+
+// How many numbers a tetrahedron of the output has.
+const TET: usize = 4;
+
+// The record k, from 0, of a table.
+fn record_at(table: &[u16], k: usize) -> &[u16]
+    requires { ⌜ width * (k + 1) ≤ length (now table) ⌝ }
+    ensures { λ r. ⌜ now r ≡ recordAt (now (table .entry)) k ⌝ }
+{
+    let start = RECORD * k;
+    let end = start + RECORD;
+    &table[start..end]
+}
+
+// A tetrahedron's four numbers, from an index on.
+fn put_tet(out: &mut [u16], at: usize, t: Tet)
+    requires { ⌜ at + tetWidth ≤ length (now out) ⌝ }
+    ensures { λ _. ⌜ now (out .exit) ≡ placed (now (out .entry)) at (flat (tetOf t ∷ [])) ⌝ }
+{
+    out[at] = t.a.0;
+    out[at + 1] = t.b.0;
+    out[at + 2] = t.c.0;
+    out[at + 3] = t.d.0;
+}
+
+// The first n of six tetrahedra, from an index on.
+fn put_tets(out: &mut [u16], at: usize, tets: [Tet; 6], n: usize)
+    requires { ⌜ n ≤ 6 ⌝ }
+    requires { ⌜ at + tetWidth * n ≤ length (now out) ⌝ }
+    ensures { λ _. ⌜ now (out .exit) ≡ placed (now (out .entry)) at (flat (map tetOf (take n tets))) ⌝ }
+{
+    let mut k = 0;
+    while k < n {
+        let t = tets[k];
+        put_tet(out, at + TET * k, t);
+        k += 1;
+    }
+}
+
+// An element's tetrahedra, from an index on; their count.
+fn put_element(numbers: &[u16], out: &mut [u16], at: usize) -> usize
+    requires { ⌜ Whole (now numbers) ⌝ }
+    requires { ⌜ at + tetWidth * length (cut (elementOf (now numbers))) ≤ length (now out) ⌝ }
+    ensures { λ r. ⌜ Stored (cut (elementOf (now (numbers .entry)))) at (now (out .entry)) r (now (out .exit)) ⌝ }
+{
+    let block = blocks::block_of(numbers);
+    let count = block.count;
+    let tets = block.tets;
+    put_tets(out, at, tets, count);
+    count
+}
+
+// How many tetrahedra the first n elements make.
+pub fn count_all(table: &[u16], n: usize) -> usize
+    requires { ⌜ WholeTable (now table) n ⌝ }
+    ensures { λ r. ⌜ Counted (cutMesh (firstElements (now (table .entry)) n)) n r ⌝ }
+{
+    let mut count = 0;
+    let mut k = 0;
+    while k < n {
+        let block = blocks::block_of(record_at(table, k));
+        count += block.count;
+        k += 1;
+    }
+    count
+}
+
+// The cut of the first n elements, from the front on.
+pub fn cut_all(table: &[u16], n: usize, out: &mut [u16])
+    requires { ⌜ WholeTable (now table) n ⌝ }
+    requires { ⌜ tetWidth * length (cutMesh (firstElements (now table) n)) ≤ length (now out) ⌝ }
+    ensures { λ _. ⌜ now (out .exit) ≡ laid (flat (cutMesh (firstElements (now (table .entry)) n))) (now (out .entry)) ⌝ }
+{
+    let mut count = 0;
+    let mut k = 0;
+    while k < n {
+        let more = put_element(record_at(table, k), out, TET * count);
+        count += more;
+        k += 1;
+    }
+}
