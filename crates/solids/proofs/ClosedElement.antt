@@ -1,23 +1,23 @@
 -- The surface of an element's cut is the cut of its surface: from the test on places to all vertex numbers.
 -- Assumes nothing.
 use mathlib.Core.Path.{_≡_, refl, sym, _∙_, ap, ap₂, subst}
-use mathlib.Core.Bool.{Bool, true, false, cond, not, _&&_, _||_}
-use mathlib.Core.List.{List, [], _∷_, _++_, map, List·Memᴰ, List·Memᴰ·cases-cons, List·Memᴰ·not-nil, Memᴰ·of-map}
+use mathlib.Core.Bool.{Bool, true, false, cond, _&&_}
+use mathlib.Core.List.{List, [], _∷_, map, List·Memᴰ, List·Memᴰ·cases-cons, List·Memᴰ·not-nil, Memᴰ·of-map}
 use mathlib.Core.Logic.{_⊎_, inl, inr}
-use Prim.Native.Nat.{ℕ, zero, suc, _+_, _-_, _≤_, _<_}
+use Prim.Native.Nat.{ℕ, _+_, _-_, _≤_}
 use native.Mathlib.Omega.{arith}
 use lib.Dec.{eqb, T, eqb→eq}
 use Rattle.laws.specs.Words.{gather, every, among}
-use Rattle.solids.specs.Solids.{Solid, Face, three, four, Tri, tri, Tet, Element, element, faces, at, onTri, onTet, onFace, ofFace, ofTri, facesOf}
-use Rattle.solids.specs.Cut.{turned, halves, cutFace, inOrder, first, cut}
-use Rattle.solids.specs.Surface.{sides, back, sameTri, times, owners, byRule, skin, within}
+use Rattle.solids.specs.Solids.{Solid, Face, three, four, Tri, tri, element, faces, onTri, onTet, onFace, ofFace, facesOf}
+use Rattle.solids.specs.Cut.{turned, halves, cutFace, first, cut}
+use Rattle.solids.specs.Surface.{sides, back, times, owners, byRule, skin, within}
 use Rattle.laws.proofs.TestLaws.{and-left, and-right}
-use Rattle.solids.proofs.RenamingLaws.{cutsAt, asked, cuts-on, eqb-on, turned-on, halves-on}
+use Rattle.solids.proofs.RenamingLaws.{cutsAt, eqb-on}
 use Rattle.solids.proofs.NumberingLaws.{number, number-inj}
-use Rattle.solids.proofs.ShapeLaws.{shape, Proper, turnsOf, faces-f, faces-inside, tets-shape, at-shape}
+use Rattle.solids.proofs.ShapeLaws.{shape, Proper, faces-f, faces-inside}
 use Rattle.solids.proofs.HalfLaws.{ways-of, cut-half, at-half}
 use Rattle.solids.proofs.SideLaws.{Same, s0, s1, s2, turn, same-back, times-same, owners-inOrder, times-on, sides-on, back-on, found}
-use Rattle.solids.proofs.LocalTest.{merge, skinAt, skin-f, merged, wayOf, one-half, sideOk, skinOk, flatOk, allFlat, localOk, local-all}
+use Rattle.solids.proofs.LocalTest.{merge, skin-f, merged, wayOf, one-half, sideOk, skinOk, flatOk, allFlat, localOk, local-all}
 
 flat-at : (S : List (Tri ℕ)) (k : Face ℕ → ℕ) (fs : List (Face ℕ)) → T (allFlat S fs (map k fs)) → (G : Face ℕ) → List·Memᴰ G fs → T (every (flatOk (k G) G) S)
 flat-at S k [] h G m = absurd (List·Memᴰ·not-nil m)

@@ -1,23 +1,23 @@
 -- Facts of one element that the mesh needs.
 -- Assumes nothing.
 use mathlib.Core.Path.{_≡_, refl, sym, _∙_, ap, ap₂, subst}
-use mathlib.Core.Bool.{Bool, true, false, cond, not, _&&_, _||_}
-use mathlib.Core.List.{List, [], _∷_, _++_, map, List·Memᴰ, List·Memᴰ·cases-cons, List·Memᴰ·not-nil, Memᴰ·of-map}
+use mathlib.Core.Bool.{Bool, true, false, cond, _&&_, _||_}
+use mathlib.Core.List.{List, [], _∷_, map, List·Memᴰ, Memᴰ·of-map}
 use mathlib.Core.Logic.{_⊎_, inl, inr, _≢_}
-use Prim.Native.Nat.{ℕ, zero, suc, _+_, _-_, _≤_, _<_}
+use Prim.Native.Nat.{ℕ, zero, suc, _+_, _≤_, _<_}
 use native.Mathlib.Nat.{le-of-suc-le-suc, not-suc-le-zero}
 use native.Mathlib.Omega.{arith}
 use lib.Dec.{eqb, T, eqb→eq, eqb-refl, ltb→lt}
 use borrow.Author.Tests.{ne-eqb}
 use lib.ListN.{length, getD}
-use Rattle.laws.specs.Words.{gather, every, some, among, distinct, count}
-use Rattle.solids.specs.Solids.{Solid, tetrahedron, pyramid, prism, hexahedron, Face, three, four, Tri, tri, Tet, tet, Element, element, corners, faces, at, onTri, onFace, ofFace, ofTri, holds, facesOf}
+use Rattle.laws.specs.Words.{gather, every, among, distinct, count}
+use Rattle.solids.specs.Solids.{Solid, tetrahedron, pyramid, prism, hexahedron, Face, three, four, Tri, tri, tet, element, corners, faces, at, onTri, onFace, ofFace, ofTri, holds, facesOf}
 use Rattle.solids.specs.Cut.{turned, turns, halves, cutFace, lowestFirst, first, cut}
 use Rattle.solids.specs.Fit.{sameSet}
 use Rattle.solids.specs.Surface.{sides, sameTri, times, owners, within}
 use Rattle.laws.proofs.TestLaws.{and-left, and-right, T-true, true-T, not-among-cons, distinct-cons}
 use Rattle.laws.proofs.EveryLaws.{every-at, every-implies, every-map}
-use Rattle.solids.proofs.RenamingLaws.{apart-on, eqb-on}
+use Rattle.solids.proofs.RenamingLaws.{apart-on}
 use Rattle.solids.proofs.NumberingLaws.{number, number-inj, inside}
 use Rattle.solids.proofs.ShapeLaws.{shape, Proper, faces-f, faces-inside, at-f}
 use Rattle.solids.proofs.HalfLaws.{allHalves, ways-of, at-half}
@@ -25,7 +25,7 @@ use Rattle.solids.proofs.SideLaws.{Same, s0, s1, s2, turn, same-sym, te
 use Rattle.solids.proofs.ClosedElement.{owners-shape, within-same}
 use Rattle.solids.proofs.TurnLaws.{ofFour, apartFaces}
 use Rattle.solids.proofs.RelistedLaws.{among-on}
-use Rattle.solids.proofs.CycleLaws.{FaceApart, next, holds-next}
+use Rattle.solids.proofs.CycleLaws.{FaceApart, holds-next}
 
 -- corners of an element
 at-among : (vs : List ℕ) (p : ℕ) → T (inside (length vs) p) → T (among (at vs p) vs)

@@ -1,17 +1,17 @@
 -- Two elements that fit: where they share a triangle's corners, they share a face, whose triangles are each other's reverses.
 -- Assumes nothing.
-use mathlib.Core.Path.{_≡_, refl, sym, _∙_, ap, ap₂, subst}
-use mathlib.Core.Bool.{Bool, true, false, cond, not, _&&_, _||_}
-use mathlib.Core.List.{List, [], _∷_, _++_, map, List·Memᴰ, List·Memᴰ·head, List·Memᴰ·tail}
-use mathlib.Core.Logic.{_⊎_, inl, inr, _≢_}
-use Prim.Native.Nat.{ℕ, zero, suc, _+_, _-_, _≤_, _<_}
+use mathlib.Core.Path.{_≡_, refl, sym, _∙_, ap, subst}
+use mathlib.Core.Bool.{Bool, true, false, cond, _&&_, _||_}
+use mathlib.Core.List.{List, [], _∷_, List·Memᴰ}
+use mathlib.Core.Logic.{_⊎_, inl, inr}
+use Prim.Native.Nat.{ℕ, suc}
 use native.Mathlib.Omega.{arith}
 use lib.Dec.{eqb, leb, T, eqb→eq, leb→le}
 use lib.ListN.{length}
 use Rattle.laws.specs.Words.{gather, every, some, among, keep}
-use Rattle.solids.specs.Solids.{Solid, Face, Tri, tri, Element, element, ofFace, ofTri, holds, facesOf, cornersOf, Edge, edge, ends, edgesOf}
+use Rattle.solids.specs.Solids.{Face, Tri, tri, Element, ofFace, ofTri, holds, facesOf, cornersOf, Edge, edge, ends, edgesOf}
 use Rattle.solids.specs.Rotations.{sameFace}
-use Rattle.solids.specs.Fit.{proper, common, sameSet, hasEdge, backFace, fits}
+use Rattle.solids.specs.Fit.{common, sameSet, hasEdge, backFace, fits}
 use Rattle.solids.specs.Surface.{back, times, Piece, Agree}
 use Rattle.laws.proofs.TestLaws.{or-cases, or-left, or-right, and-left, and-right, true-T}
 use Rattle.laws.proofs.EveryLaws.{some-at, among-every}

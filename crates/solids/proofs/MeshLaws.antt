@@ -1,22 +1,21 @@
 -- The surface of a mesh of pieces: whoever chose the tetrahedra and the triangles of the faces, their surface is the triangles of the outer faces, if
 -- each piece is closed, the elements fit, and pieces agree on shared faces.
 -- Assumes nothing.
-use mathlib.Core.Path.{_≡_, refl, sym, _∙_, ap, ap₂, subst}
-use mathlib.Core.Bool.{Bool, true, false, cond, not, _&&_, _||_}
-use mathlib.Core.List.{List, [], _∷_, _++_, map, append-assoc, List·Memᴰ, List·Memᴰ·head, List·Memᴰ·tail, List·Memᴰ·cases-cons, List·Memᴰ·not-nil, Memᴰ·append-left, Memᴰ·append-right, Memᴰ·map}
-use mathlib.Core.Logic.{_⊎_, inl, inr, _≢_}
-use Prim.Native.Nat.{ℕ, zero, suc, _+_, _-_, _≤_, _<_}
+use mathlib.Core.Path.{_≡_, refl, sym, _∙_, ap, subst}
+use mathlib.Core.Bool.{Bool, true, false, cond}
+use mathlib.Core.List.{List, [], _∷_, _++_, append-assoc, List·Memᴰ, List·Memᴰ·head, List·Memᴰ·tail, List·Memᴰ·cases-cons, List·Memᴰ·not-nil, Memᴰ·append-left, Memᴰ·append-right, Memᴰ·map}
+use mathlib.Core.Logic.{_⊎_, inl, inr}
+use Prim.Native.Nat.{ℕ, zero, suc, _+_, _-_, _≤_}
 use native.Mathlib.Nat.{not-suc-le-zero}
 use native.Mathlib.Omega.{arith}
-use lib.Dec.{eqb, T, eqb→eq, eqb-refl}
+use lib.Dec.{T}
 use borrow.Author.Tests.{eqb-true, eqb-false}
 use Rattle.laws.specs.Words.{gather, every, keep, count}
-use Rattle.solids.specs.Solids.{Face, Tri, Tet, Element, ofFace, facesOf}
+use Rattle.solids.specs.Solids.{Face, Tri, ofFace, facesOf}
 use Rattle.solids.specs.Fit.{proper, sameSet, fits, fitting, isOuter}
-use Rattle.solids.specs.Surface.{sides, back, sameTri, times, owners, Piece, skin, Closed, Agree, Agreeing, wholes, allTets, outerTriangles, SurfaceOf}
+use Rattle.solids.specs.Surface.{sides, back, sameTri, times, owners, Piece, Closed, Agreeing, wholes, allTets, outerTriangles, SurfaceOf}
 use Rattle.laws.proofs.TestLaws.{and-left, and-right}
 use Rattle.laws.proofs.EveryLaws.{every-at, count-append}
-use Rattle.solids.proofs.CycleLaws.{back-back}
 use Rattle.solids.proofs.MeetLaws.{Meet, meet-sym, fits-meet}
 use Rattle.solids.proofs.PairLaws.{Good, good, total, total-mem, times-gather, alone, faced, crossed}
 

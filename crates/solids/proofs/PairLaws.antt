@@ -1,19 +1,18 @@
 -- Two elements that meet in whole faces: what one owns, the other does not, and what crosses their common face.
 -- Assumes nothing.
-use mathlib.Core.Path.{_≡_, refl, sym, _∙_, ap, ap₂, subst}
-use mathlib.Core.Bool.{Bool, true, false, cond, not, _&&_, _||_}
-use mathlib.Core.List.{List, [], _∷_, _++_, map, List·Memᴰ, List·Memᴰ·head, List·Memᴰ·tail, List·Memᴰ·cases-cons, List·Memᴰ·not-nil}
-use mathlib.Core.Logic.{_⊎_, inl, inr, _≢_}
-use Prim.Native.Nat.{ℕ, zero, suc, _+_, _-_, _≤_, _<_}
+use mathlib.Core.Path.{_≡_, refl, sym, _∙_, ap, subst}
+use mathlib.Core.Bool.{Bool, true, false, cond, _&&_}
+use mathlib.Core.List.{List, [], _∷_, List·Memᴰ, List·Memᴰ·head, List·Memᴰ·tail, List·Memᴰ·cases-cons, List·Memᴰ·not-nil}
+use mathlib.Core.Logic.{_⊎_, inl, inr}
+use Prim.Native.Nat.{ℕ, zero, suc, _+_, _-_, _≤_}
 use native.Mathlib.Nat.{not-suc-le-zero}
 use native.Mathlib.Omega.{arith}
-use lib.Dec.{eqb, T, eqb→eq, eqb-refl}
-use lib.ListN.{length}
-use Rattle.laws.specs.Words.{gather, every, some, among, count, distinct}
-use Rattle.solids.specs.Solids.{Solid, Face, Tri, tri, Element, element, corners, ofFace, ofTri, holds, facesOf, cornersOf}
+use lib.Dec.{eqb, T, eqb-refl}
+use Rattle.laws.specs.Words.{gather, every, among, count}
+use Rattle.solids.specs.Solids.{Face, Tri, tri, Element, element, ofFace, ofTri, holds, facesOf, cornersOf}
 use Rattle.solids.specs.Fit.{proper, sameSet}
 use Rattle.solids.specs.Surface.{back, sameTri, times, owners, within, Piece, skin, Closed}
-use Rattle.laws.proofs.TestLaws.{or-left, or-right, and-both, and-left, and-right, true-T}
+use Rattle.laws.proofs.TestLaws.{or-left, or-right, and-both, and-left, true-T}
 use Rattle.laws.proofs.EveryLaws.{every-both, every-implies, count-append, among-every}
 use Rattle.solids.proofs.ShapeLaws.{from-proper}
 use Rattle.solids.proofs.CycleLaws.{back-back}

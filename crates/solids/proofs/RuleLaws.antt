@@ -1,15 +1,14 @@
 -- The page's cut as pieces: each is closed, and every two agree on a shared face, because a face is cut from its lowest number and not from a place.
 -- Assumes nothing.
-use mathlib.Core.Path.{_≡_, refl, sym, _∙_, ap, ap₂, subst}
-use mathlib.Core.Bool.{Bool, true, false, cond}
-use mathlib.Core.List.{List, [], _∷_, _++_, map, List·Memᴰ, List·Memᴰ·tail, Memᴰ·of-map}
+use mathlib.Core.Path.{_≡_, refl, sym, _∙_, ap, subst}
+use mathlib.Core.Bool.{Bool}
+use mathlib.Core.List.{List, [], _∷_, _++_, map, List·Memᴰ, Memᴰ·of-map}
 use Prim.Native.Nat.{ℕ, _-_, _≤_}
 use lib.Dec.{T}
 use Rattle.laws.specs.Words.{gather, every, keep}
 use Rattle.laws.proofs.TestLaws.{and-left, and-right}
 use Rattle.laws.proofs.EveryLaws.{every-at}
-use Rattle.solids.specs.Solids.{Face, Tri, tri, Tet, Element, element, facesOf}
-use Rattle.solids.specs.Rotations.{sameFace}
+use Rattle.solids.specs.Solids.{Face, Tri, Tet, Element, element, facesOf}
 use Rattle.solids.specs.Cut.{cutFace, cut, cutMesh}
 use Rattle.solids.specs.Fit.{proper, fitting, backFace, isOuter, outerFaces}
 use Rattle.solids.specs.Surface.{back, times, owners, Piece, byRule, Closed, Agree, Agreeing, wholes, allTets, outerTriangles, SurfaceOf, SurfaceCut}

@@ -1,16 +1,15 @@
 -- What the tetrahedra of a cut are, by their sides: each has four different vertices, all of them the element's, and none occurs twice.
 -- Assumes nothing.
-use mathlib.Core.Path.{_≡_, refl, sym, _∙_, ap, subst}
-use mathlib.Core.Bool.{Bool, true, false, cond, not, _&&_, _||_}
+use mathlib.Core.Path.{refl, subst}
+use mathlib.Core.Bool.{Bool, true, false, cond, _&&_}
 use mathlib.Core.List.{List, [], _∷_, _++_}
-use mathlib.Core.Logic.{_≢_}
 use Prim.Native.Nat.{ℕ, _+_, _≤_, zero-le}
-use native.Mathlib.Nat.{le-trans, le-refl}
+use native.Mathlib.Nat.{le-trans}
 use native.Mathlib.Omega.{arith}
-use lib.Dec.{eqb, T}
+use lib.Dec.{T}
 use borrow.Author.Tests.{ne-eqb}
 use Rattle.laws.specs.Words.{count, every, gather, among, distinct}
-use Rattle.solids.specs.Solids.{Solid, Tri, tri, Tet, tet, Element, element, ofTri, ofTet, cornersOf}
+use Rattle.solids.specs.Solids.{Tri, tri, Tet, tet, Element, ofTri, ofTet, cornersOf}
 use Rattle.solids.specs.Cut.{cut}
 use Rattle.solids.specs.Fit.{proper}
 use Rattle.solids.specs.Surface.{sides, sameTri, times, owners, eqTet, Plain, byRule, Closed}
@@ -18,7 +17,7 @@ use Rattle.laws.proofs.TestLaws.{and-both, and-left, T-true}
 use Rattle.laws.proofs.EveryLaws.{count-append}
 use Rattle.solids.proofs.SideLaws.{s0, same-test}
 use Rattle.solids.proofs.RowLaws.{eqTet→eq}
-use Rattle.solids.proofs.FaceFacts.{TriApart, distinct-apart₃}
+use Rattle.solids.proofs.FaceFacts.{distinct-apart₃}
 use Rattle.solids.proofs.RuleLaws.{rule-closed}
 
 -- a triangle among others is counted
