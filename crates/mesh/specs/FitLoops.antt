@@ -15,5 +15,5 @@ faceOf (Four p q r s) = four (p .0) (q .0) (r .0) (s .0)
 
 -- the first r numbers of the memory are the corners that are among the others, in their order
 pub record Collected (corners others memory : List ℕ) (r : ℕ) : Type 0 where
-  pub few : r ≤ 8
+  pub few : r ≤ length corners
   pub these : take r memory ≡ keep (λ v. among v others) corners

@@ -1,8 +1,8 @@
 // Lists of vertex numbers as sets.
 ghost use mathlib.Core.Path.{_≡_};
 ghost use Prim.Native.Nat.{_≤_};
-ghost use lib.ListN.{length, take};
-ghost use Rattle.laws.specs.Words.{among, every, keep};
+ghost use lib.ListN.{length};
+ghost use Rattle.laws.specs.Words.{among, every};
 ghost use Rattle.solids.specs.Fit.{sameSet};
 ghost use Rattle.mesh.specs.FitLoops.{Collected};
 
@@ -44,9 +44,9 @@ pub fn same_set(list: &[u16], others: &[u16]) -> bool
     false
 }
 
-// The vertices of one element that are among those of the other, put into `found` in their order, and how many they are.
-pub fn common_of(corners: &[u16], others: &[u16], found: &mut [u16; 8]) -> usize
-    requires { ⌜ length (now corners) ≤ 8 ⌝ }
+// The corners that are among the others, put into `found` in their order, and how many they are.
+pub fn common_of(corners: &[u16], others: &[u16], found: &mut [u16]) -> usize
+    requires { ⌜ length (now corners) ≤ length (now found) ⌝ }
     ensures { λ r. ⌜ Collected (now (corners .entry)) (now (others .entry)) (now (found .exit)) r ⌝ }
 {
     let mut count = 0;

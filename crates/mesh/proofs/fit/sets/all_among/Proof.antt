@@ -1,50 +1,50 @@
+-- `mesh::fit::sets::all_among` meets its contract. The loop's invariant: whether each number that is left is among the others is whether each of all is.
+-- The measure is what is left of the length. Assumes nothing.
+use Prim.Native.Nat.{ℕ, _-_}
+use mathlib.Core.Path.{_≡_, sym, _∙_}
+use mathlib.Core.Bool.{Bool, true, false}
+use borrow.Author.Needs.{needs}
+use borrow.Author.Tests.{not-true, not-false}
+use lib.ListN.{length}
+use denote.Ref.{now}
+use Rattle.laws.specs.Words.{every, among}
+use Rattle.laws.proofs.WordLaws.{Left, left-start}
+use Rattle.mesh.proofs.PassLaws.{every-here, every-next, every-end}
 use Rattle.mesh.proofs.fit.sets.all_among.Statement.{statement}
 use Rattle.mesh.proofs.fit.sets.all_among.Tie as tie
-use Rattle.mesh.proofs.fit.sets.all_among.Reads as reads
-use Rattle.mesh.proofs.fit.sets.all_among.Lts as lts
-use Rattle.mesh.proofs.fit.sets.is_among.Reads as is-among-reads
 
 abbrev Inv-loop : tie.InvT-loop
-Inv-loop list others i₀ i = ?
+Inv-loop list others i₀ i = Left (every (λ v. among v others)) list i
 
 abbrev μ-loop : tie.MeasureT-loop
-μ-loop list others i₀ i = ?
+μ-loop list others i₀ i = length list - i
 
--- src/fit/sets.rt:28:5
 loop-holds : tie.Need-loop-holds Inv-loop μ-loop
-loop-holds c = ?
+loop-holds c = left-start _ _
 
--- src/fit/sets.rt:29:22
 mul-is-among : tie.Need-mul-is-among Inv-loop μ-loop
-mul-is-among c = ?
+mul-is-among c = search needs
 
--- src/fit/sets.rt:29:22
 shared-slice-read-is-among : tie.Need-shared-slice-read-is-among Inv-loop μ-loop
-shared-slice-read-is-among c = ?
+shared-slice-read-is-among c = search needs
 
--- src/fit/sets.rt:29:13
 is-among-requires : tie.Need-is-among-requires Inv-loop μ-loop
-is-among-requires c κs = ?
+is-among-requires c κs = search needs
 
--- src/fit/sets.rt:30:13
 returns : tie.Need-returns Inv-loop μ-loop
-returns c = ?
+returns c = every-here (λ v. among v (now (c .before .before .before .before .before .before .before .args .others))) 0 (c .before .before .before .before .loop .inv) (c .before .before .before .loop-test .taken) (sym (c .before .is-among .ensures) ∙ not-true _ (c .if1 .taken))
 
--- src/fit/sets.rt:32:9
 add-i : tie.Need-add-i Inv-loop μ-loop
-add-i c = ?
+add-i c = search needs
 
--- src/fit/sets.rt:28:5
 loop-less : tie.Need-loop-less Inv-loop μ-loop
-loop-less c = ?
+loop-less c = search needs
 
--- src/fit/sets.rt:28:5
 loop-again : tie.Need-loop-again Inv-loop μ-loop
-loop-again c = ?
+loop-again c = every-next (λ v. among v (now (c .before .before .before .before .before .before .before .args .others))) 0 (c .before .before .before .before .loop .inv) (c .before .before .before .loop-test .taken) (sym (c .before .is-among .ensures) ∙ not-false _ (c .if1 .left))
 
--- src/fit/sets.rt:24:1
 returns-2 : tie.Need-returns-2 Inv-loop μ-loop
-returns-2 c = ?
+returns-2 c = every-end (λ v. among v (now (c .before .before .before .before .args .others))) 0 (c .before .loop .inv) (c .loop-test .left)
 
 pub all-among-spec : {M : Type 1} → statement M
 all-among-spec =

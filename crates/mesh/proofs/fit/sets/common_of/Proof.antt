@@ -1,58 +1,86 @@
+-- `mesh::fit::sets::common_of` meets its contract. The loop's invariant: of the corners that are passed, those among the others stand at the front
+-- of the memory, which is as long as it was. The measure is what is left of the length. Assumes nothing.
+use Prim.Native.Nat.{ℕ, _-_, _≤_, _+_, _<_}
+use native.Mathlib.Omega.{arith}
+use mathlib.Core.Path.{_≡_, refl, sym, _∙_}
+use mathlib.Core.Bool.{Bool, true, false}
+use mathlib.Core.List.{List}
+use mathlib.Core.Logic.{⊎-elim}
+use borrow.Author.Needs.{needs}
+use lib.ListN.{length, set, length-set, getD}
+use denote.Ref.{now}
+use Rattle.laws.specs.Words.{among}
+use Rattle.mesh.specs.FitLoops.{Collected}
+use Rattle.mesh.proofs.PassLaws.{Kept, kept-start, kept-yes, kept-no, kept-end}
 use Rattle.mesh.proofs.fit.sets.common_of.Statement.{statement}
 use Rattle.mesh.proofs.fit.sets.common_of.Tie as tie
-use Rattle.mesh.proofs.fit.sets.common_of.Reads as reads
-use Rattle.mesh.proofs.fit.sets.common_of.Lts as lts
-use Rattle.mesh.proofs.fit.sets.is_among.Reads as is-among-reads
+
+record Going (corners others start memory : List ℕ) (n i : ℕ) : Type 0 where
+  kept : Kept (λ v. among v others) corners memory n i
+  size : length memory ≡ length start
+
+module _ {corners others start memory : List ℕ} {n i : ℕ} (w : Going corners others start memory n i) where
+  room : length corners ≤ length start → i < length corners → n < length memory
+  room r h = omega (arith, w .kept .few, w .size)
+
+  passes : length corners ≤ length start → i < length corners → among (getD corners i 0) others ≡ true
+      → Going corners others start (set memory n (getD corners i 0)) (n + 1) (i + 1)
+  passes r h e =
+      record {
+      kept = kept-yes (λ v. among v others) corners (w .kept) 0 h (room r h) e;
+      size = length-set memory n (getD corners i 0) ∙ w .size
+      }
+
+  fails : i < length corners → among (getD corners i 0) others ≡ false → Going corners others start memory n (i + 1)
+  fails h e = record { kept = kept-no (λ v. among v others) corners (w .kept) 0 h e; size = w .size }
 
 abbrev Inv-loop : tie.InvT-loop
-Inv-loop corners others found₀ count₀ i₀ found count i = ?
+Inv-loop corners others found₀ count₀ i₀ found count i = Going corners others found₀ found count i
 
 abbrev μ-loop : tie.MeasureT-loop
-μ-loop corners others found₀ count₀ i₀ found count i = ?
+μ-loop corners others found₀ count₀ i₀ found count i = length corners - i
 
--- src/fit/sets.rt:54:5
 loop-holds : tie.Need-loop-holds Inv-loop μ-loop
-loop-holds c = ?
+loop-holds c = record { kept = kept-start _ _ _; size = refl }
 
--- src/fit/sets.rt:55:17
 mul-v : tie.Need-mul-v Inv-loop μ-loop
-mul-v c = ?
+mul-v c = search needs
 
--- src/fit/sets.rt:55:17
 shared-slice-read-v : tie.Need-shared-slice-read-v Inv-loop μ-loop
-shared-slice-read-v c = ?
+shared-slice-read-v c = search needs
 
--- src/fit/sets.rt:56:12
 is-among-requires : tie.Need-is-among-requires Inv-loop μ-loop
-is-among-requires c κs = ?
+is-among-requires c κs = search needs
 
--- src/fit/sets.rt:57:13
 mul-found : tie.Need-mul-found Inv-loop μ-loop
-mul-found c = ?
+mul-found c = let h = room (c .before .before .before .before .loop .inv) (c .before .before .before .before .before .before .before .before .pre) (c .before .before .before .loop-test .taken) in search needs
 
--- src/fit/sets.rt:57:13
-element-write-found : tie.Need-element-write-found Inv-loop μ-loop
-element-write-found c = ?
+slice-write-found : tie.Need-slice-write-found Inv-loop μ-loop
+slice-write-found c = room (c .before .before .before .before .loop .inv) (c .before .before .before .before .before .before .before .before .pre) (c .before .before .before .loop-test .taken)
 
--- src/fit/sets.rt:58:13
 add-count : tie.Need-add-count Inv-loop μ-loop
-add-count c = ?
+add-count c = omega (arith, c .before .before .before .before .loop .inv .kept .few)
 
--- src/fit/sets.rt:60:9
 add-i : tie.Need-add-i Inv-loop μ-loop
-add-i c = ?
+add-i c = search needs
 
--- src/fit/sets.rt:54:5
 loop-less : tie.Need-loop-less Inv-loop μ-loop
-loop-less c = ?
+loop-less c = search needs
 
--- src/fit/sets.rt:54:5
 loop-again : tie.Need-loop-again Inv-loop μ-loop
-loop-again c = ?
+loop-again c =
+    let w = c .before .before .before .before .loop .inv in
+    let h = c .before .before .before .loop-test .taken in
+    ⊎-elim
+    (λ a. rw (a .1, a .2) (passes w (c .before .before .before .before .before .before .before .before .pre) h (sym (c .before .is-among .ensures) ∙ a .0 .taken)))
+    (λ a. rw (a .1, a .2) (fails w h (sym (c .before .is-among .ensures) ∙ a .0 .left)))
+    (c .if1 .came)
 
--- src/fit/sets.rt:48:1
+same-length : tie.Need-same-length Inv-loop μ-loop
+same-length c = c .before .loop .inv .size
+
 returns : tie.Need-returns Inv-loop μ-loop
-returns c = ?
+returns c = record { few = omega (arith, c .before .loop .inv .kept .few, c .before .loop .inv .kept .high); these = kept-end _ _ (c .before .loop .inv .kept) (c .loop-test .left) }
 
 pub common-of-spec : {M : Type 1} → statement M
 common-of-spec =
@@ -65,9 +93,10 @@ common-of-spec =
     shared-slice-read-v
     is-among-requires
     mul-found
-    element-write-found
+    slice-write-found
     add-count
     add-i
     loop-less
     loop-again
+    same-length
     returns)
