@@ -5,3 +5,4 @@ pub mod LentLaws
 pub mod SearchLaws
 pub mod SizeLaws
 pub mod WordLaws
+pub mod PassLaws

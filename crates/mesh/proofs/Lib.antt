@@ -1,3 +1,3 @@
 -- What is proved of tables.
-pub mod PassLaws
 pub mod FaceLaws
+pub mod FittingLaws

@@ -33,6 +33,22 @@ fn has_edge(vertices: &[u16], solid: Solid, corners: &[u16]) -> bool
     false
 }
 
+// The vertices are the two ends of an edge of both elements.
+fn share_edge(
+    vertices: &[u16],
+    solid: Solid,
+    corners: &[u16],
+    neighbour: Solid,
+    others: &[u16],
+) -> bool
+    ensures { λ r. ⌜ r ≡ (hasEdge (now (vertices .entry)) (element solid (now (corners .entry))) && hasEdge (now (vertices .entry)) (element neighbour (now (others .entry)))) ⌝ }
+{
+    if has_edge(vertices, solid, corners) {
+        return has_edge(vertices, neighbour, others);
+    }
+    false
+}
+
 // The cycle is that of a face of the element.
 fn has_face(cycle: Cycle, solid: Solid, corners: &[u16]) -> bool
     ensures { λ r. ⌜ r ≡ some (sameFace (faceOf cycle)) (facesOf (element solid (now (corners .entry)))) ⌝ }
@@ -98,10 +114,8 @@ pub fn pair_fits(a: &[u16], b: &[u16]) -> bool
     let solid_a = records::solid_of(records::kind_of(a));
     let solid_b = records::solid_of(records::kind_of(b));
     let common = &found[..n];
-    if has_edge(common, solid_a, corners_a) {
-        if has_edge(common, solid_b, corners_b) {
-            return true;
-        }
+    if share_edge(common, solid_a, corners_a, solid_b, corners_b) {
+        return true;
     }
     share_face(common, solid_a, corners_a, solid_b, corners_b)
 }

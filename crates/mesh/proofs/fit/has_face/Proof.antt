@@ -1,52 +1,57 @@
+-- `mesh::fit::has_face` meets its contract. The loop's invariant: whether the cycle is that of a face that is left is whether it is that of any face.
+-- The measure is how many faces are left. Assumes nothing.
+use Prim.Native.Nat.{_-_}
+use borrow.Author.Needs.{needs}
+use denote.Ref.{now}
+use Rattle.laws.specs.Words.{some}
+use Rattle.laws.proofs.WordLaws.{Left, left-start}
+use Rattle.solids.specs.Solids.{element, facesOf}
+use Rattle.solids.specs.Rotations.{sameFace}
+use Rattle.mesh.specs.FitLoops.{faceOf}
+use Rattle.mesh.proofs.FaceLaws.{face-here, face-next, face-end}
 use Rattle.mesh.proofs.fit.has_face.Statement.{statement}
 use Rattle.mesh.proofs.fit.has_face.Tie as tie
-use Rattle.mesh.proofs.fit.has_face.Reads as reads
-use Rattle.mesh.proofs.fit.has_face.Lts as lts
-use Rattle.mesh.proofs.fit.cycles.face_of.Reads as face-of-reads
-use Rattle.mesh.proofs.fit.cycles.same.Reads as same-reads
-use Rattle.solids.proofs.face_count.Reads as face-count-reads
 
 abbrev Inv-loop : tie.InvT-loop
-Inv-loop cycle solid corners n i₀ i = ?
+Inv-loop cycle solid corners n i₀ i = Left (some (sameFace (faceOf cycle))) (facesOf (element solid corners)) i
 
 abbrev μ-loop : tie.MeasureT-loop
-μ-loop cycle solid corners n i₀ i = ?
+μ-loop cycle solid corners n i₀ i = n - i
 
--- src/fit.rt:40:9
 face-count-requires : tie.Need-face-count-requires Inv-loop μ-loop
-face-count-requires c κs = ?
+face-count-requires c κs = search needs
 
--- src/fit.rt:42:5
 loop-holds : tie.Need-loop-holds Inv-loop μ-loop
-loop-holds c = ?
+loop-holds c = left-start _ _
 
--- src/fit.rt:43:32
 face-of-requires : tie.Need-face-of-requires Inv-loop μ-loop
-face-of-requires c κs = ?
+face-of-requires c κs = search needs
 
--- src/fit.rt:43:12
 same-requires : tie.Need-same-requires Inv-loop μ-loop
-same-requires c κs = ?
+same-requires c κs = search needs
 
--- src/fit.rt:44:13
 returns : tie.Need-returns Inv-loop μ-loop
-returns c = ?
+returns c =
+    let a = c .before .before .before .before .before .before .before .args in
+    face-here (sameFace (faceOf (a .cycle))) (a .solid) (now (a .corners)) (c .before .before .before .before .before .face-count .ensures) (c .before .before .before .before .loop .inv) (c .before .before .before .loop-test .taken)
+    (c .before .before .face-of .ensures) (c .before .same .ensures) (c .if1 .taken)
 
--- src/fit.rt:46:9
 add-i : tie.Need-add-i Inv-loop μ-loop
-add-i c = ?
+add-i c = search needs
 
--- src/fit.rt:42:5
 loop-less : tie.Need-loop-less Inv-loop μ-loop
-loop-less c = ?
+loop-less c = search needs
 
--- src/fit.rt:42:5
 loop-again : tie.Need-loop-again Inv-loop μ-loop
-loop-again c = ?
+loop-again c =
+    let a = c .before .before .before .before .before .before .before .args in
+    face-next (sameFace (faceOf (a .cycle))) (a .solid) (now (a .corners)) (c .before .before .before .before .before .face-count .ensures) (c .before .before .before .before .loop .inv) (c .before .before .before .loop-test .taken)
+    (c .before .before .face-of .ensures) (c .before .same .ensures) (c .if1 .left)
 
--- src/fit.rt:37:1
 returns-2 : tie.Need-returns-2 Inv-loop μ-loop
-returns-2 c = ?
+returns-2 c =
+    let a = c .before .before .before .before .args in
+    face-end (sameFace (faceOf (a .cycle))) (a .solid) (now (a .corners)) (c .before .before .face-count .ensures) (c .before .loop .inv) (c .loop-test .left)
 
 pub has-face-spec : {M : Type 1} → statement M
 has-face-spec =

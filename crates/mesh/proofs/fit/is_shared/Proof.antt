@@ -1,31 +1,24 @@
+-- `mesh::fit::is_shared` meets its contract: the corners are compared first, and then the cycle read backwards is looked for.
+-- Assumes nothing.
+use mathlib.Core.Path.{sym, _∙_}
 use borrow.Author.Needs.{needs}
 use Rattle.mesh.proofs.fit.is_shared.Statement.{statement}
 use Rattle.mesh.proofs.fit.is_shared.Tie as tie
-use Rattle.mesh.proofs.fit.is_shared.Reads as reads
-use Rattle.mesh.proofs.fit.is_shared.Lts as lts
-use Rattle.mesh.proofs.fit.cycles.back.Reads as back-reads
-use Rattle.mesh.proofs.fit.cycles.has_corners.Reads as has-corners-reads
-use Rattle.mesh.proofs.fit.has_face.Reads as has-face-reads
 
--- src/fit.rt:55:8
 has-corners-requires : tie.Need-has-corners-requires
 has-corners-requires c κs = search needs
 
--- src/fit.rt:56:25
 back-requires : tie.Need-back-requires
 back-requires c κs = search needs
 
--- src/fit.rt:56:9
 has-face-requires : tie.Need-has-face-requires
 has-face-requires c κs = search needs
 
--- src/fit.rt:56:9
 returns : tie.Need-returns
-returns c = ?
+returns c = rw (sym (c .before .before .before .has-corners .ensures) ∙ c .before .before .if1 .taken, ← (c .before .back .ensures)) (c .has-face .ensures)
 
--- src/fit.rt:52:1
 returns-2 : tie.Need-returns-2
-returns-2 c = ?
+returns-2 c = rw (sym (c .before .has-corners .ensures) ∙ c .if1 .left)
 
 pub is-shared-spec : {M : Type 1} → statement M
 is-shared-spec =

@@ -1,55 +1,71 @@
+-- `mesh::fit::misfit_of` meets its contract. The loop's invariant: every element before i fits element j. The measure is how many are left below j.
+-- Assumes nothing.
+use Prim.Native.Nat.{ℕ, _-_}
+use native.Mathlib.Omega.{arith}
+use mathlib.Core.Path.{_≡_, sym, ap, ap₂, _∙_}
+use mathlib.Core.Bool.{Bool, not}
+use mathlib.Core.List.{List}
+use borrow.Author.Needs.{needs}
+use denote.Ref.{now}
+use Rattle.solids.specs.Fit.{fits}
+use Rattle.records.specs.Record.{recordAt, elementAt, elementOf}
+use Rattle.mesh.specs.Judge.{pairFits, misfit}
+use Rattle.laws.proofs.PassLaws.{Failed, failed-start, failed-here, failed-next, failed-end}
 use Rattle.mesh.proofs.fit.misfit_of.Statement.{statement}
 use Rattle.mesh.proofs.fit.misfit_of.Tie as tie
-use Rattle.mesh.proofs.fit.misfit_of.Reads as reads
-use Rattle.mesh.proofs.fit.misfit_of.Lts as lts
-use Rattle.mesh.proofs.fit.pair_fits.Reads as pair-fits-reads
-use Rattle.mesh.proofs.fit.reading.record_at.Reads as record-at-reads
+
+-- elements i and j do not fit
+abbrev bad : List ℕ → ℕ → ℕ → Bool
+bad t j i = not (pairFits t i j)
+
+-- the verdict of two records is that of the pair
+tested : (t : List ℕ) (i j : ℕ) {a b : List ℕ} {r : Bool} → a ≡ recordAt t i → b ≡ recordAt t j → r ≡ fits (elementOf a) (elementOf b) → not r ≡ bad t j i
+unfolding pairFits elementAt
+tested t i j p q e = ap not (e ∙ ap₂ {C = Bool} (λ x y. fits (elementOf x) (elementOf y)) p q)
 
 abbrev Inv-loop : tie.InvT-loop
-Inv-loop table j i₀ i = ?
+Inv-loop table j i₀ i = Failed (bad table j) j i
 
 abbrev μ-loop : tie.MeasureT-loop
-μ-loop table j i₀ i = ?
+μ-loop table j i₀ i = j - i
 
--- src/fit.rt:115:5
 loop-holds : tie.Need-loop-holds Inv-loop μ-loop
-loop-holds c = ?
+loop-holds c = failed-start _ _
 
--- src/fit.rt:116:23
 record-at-requires : tie.Need-record-at-requires Inv-loop μ-loop
-record-at-requires c κs = ?
+record-at-requires c κs = omega (arith, c .before .before .before .pre)
 
--- src/fit.rt:116:53
 record-at-requires-2 : tie.Need-record-at-requires-2 Inv-loop μ-loop
-record-at-requires-2 c κs = ?
+record-at-requires-2 c κs = search needs
 
--- src/fit.rt:116:13
 pair-fits-requires : tie.Need-pair-fits-requires Inv-loop μ-loop
-pair-fits-requires c κs = ?
+pair-fits-requires c κs = search needs
 
--- src/fit.rt:117:20
 add-result : tie.Need-add-result Inv-loop μ-loop
-add-result c = ?
+add-result c = search needs
 
--- src/fit.rt:117:13
 returns : tie.Need-returns Inv-loop μ-loop
-returns c = ?
+unfolding misfit
+returns c =
+    let a = c .before .before .before .before .before .before .before .args in
+    failed-here (bad (now (a .table)) (a .j)) (c .before .before .before .before .before .loop .inv) (c .before .before .before .before .loop-test .taken)
+    (sym (tested (now (a .table)) (c .before .before .before .before .before .loop .i) (a .j) (c .before .before .before .record-at .ensures) (c .before .before .record-at2 .ensures) (c .before .pair-fits .ensures)) ∙ c .if1 .taken)
 
--- src/fit.rt:119:9
 add-i : tie.Need-add-i Inv-loop μ-loop
-add-i c = ?
+add-i c = search needs
 
--- src/fit.rt:115:5
 loop-less : tie.Need-loop-less Inv-loop μ-loop
-loop-less c = ?
+loop-less c = search needs
 
--- src/fit.rt:115:5
 loop-again : tie.Need-loop-again Inv-loop μ-loop
-loop-again c = ?
+loop-again c =
+    let a = c .before .before .before .before .before .before .before .args in
+    failed-next (bad (now (a .table)) (a .j)) (c .before .before .before .before .before .loop .inv) (c .before .before .before .before .loop-test .taken)
+    (sym (tested (now (a .table)) (c .before .before .before .before .before .loop .i) (a .j) (c .before .before .before .record-at .ensures) (c .before .before .record-at2 .ensures) (c .before .pair-fits .ensures)) ∙ c .if1 .left)
 
--- src/fit.rt:110:1
 returns-2 : tie.Need-returns-2 Inv-loop μ-loop
-returns-2 c = ?
+unfolding misfit
+returns-2 c = failed-end (bad (now (c .before .before .before .args .table)) (c .before .before .before .args .j)) (c .before .loop .inv) (c .loop-test .left)
 
 pub misfit-of-spec : {M : Type 1} → statement M
 misfit-of-spec =

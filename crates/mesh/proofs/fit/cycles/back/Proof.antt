@@ -1,7 +1,6 @@
 -- `mesh::fit::cycles::back` meets its contract: the face of the answer is the face read backwards.
 -- Assumes nothing.
 use borrow.Author.Needs.{needs}
-use mathlib.Core.Path.{_≡_, refl}
 use Rattle.mesh.specs.FitLoops.{faceOf}
 use Rattle.mesh.proofs.fit.cycles.back.Statement.{statement}
 use Rattle.mesh.proofs.fit.cycles.back.Tie as tie

@@ -1,6 +1,5 @@
 use borrow.Author.Needs.{needs}
 use borrow.Author.Tests.{eq-eqb, ne-eqb}
-use mathlib.Core.Path.{_≡_, refl}
 use Rattle.mesh.specs.FitLoops.{faceOf}
 use Rattle.mesh.proofs.fit.cycles.equal.Statement.{statement}
 use Rattle.mesh.proofs.fit.cycles.equal.Tie as tie

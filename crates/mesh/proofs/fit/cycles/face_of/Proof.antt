@@ -1,6 +1,6 @@
 -- `mesh::fit::cycles::face_of` meets its contract: the face's vertices stand at its places, and where its fourth place is none it has three.
 -- Assumes nothing.
-use mathlib.Core.Path.{_≡_, sym, _∙_}
+use mathlib.Core.Path.{sym, _∙_}
 use borrow.Author.Needs.{needs}
 use denote.Ref.{now}
 use Rattle.mesh.specs.FitLoops.{faceOf}
@@ -43,8 +43,16 @@ returns-2 : tie.Need-returns-2
 unfolding faceOf
 returns-2 c =
     let a = c .before .before .before .before .before .before .before .before .before .before .before .args in
-    rw (c .before .before .before .before .before .before .before .before .vertex-at .ensures, c .before .before .before .before .before .before .before .before .before .face-place .ensures, c .before .before .before .before .before .before .vertex-at2 .ensures, c .before .before .before .before .before .before .before .face-place2 .ensures, c .before .before .before .before .vertex-at3 .ensures, c .before .before .before .before .before .face-place3 .ensures,
-    c .vertex-at4 .ensures, c .before .before .before .face-place4 .ensures)
+    rw (
+      c .before .before .before .before .before .before .before .before .vertex-at .ensures,
+      c .before .before .before .before .before .before .before .before .before .face-place .ensures,
+      c .before .before .before .before .before .before .vertex-at2 .ensures,
+      c .before .before .before .before .before .before .before .face-place2 .ensures,
+      c .before .before .before .before .vertex-at3 .ensures,
+      c .before .before .before .before .before .face-place3 .ensures,
+      c .vertex-at4 .ensures,
+      c .before .before .before .face-place4 .ensures,
+    )
     (four-at (a .solid) (now (a .corners)) (a .face) (λ e. c .before .if1 .left (c .before .before .before .face-place4 .ensures ∙ e)))
 
 pub face-of-spec : {M : Type 1} → statement M

@@ -1,6 +1,5 @@
 -- `mesh::fit::cycles::has_corners` meets its contract: the vertices are compared with the three or four corners.
 -- Assumes nothing.
-use mathlib.Core.Path.{_≡_, refl, sym, _∙_}
 use borrow.Author.Needs.{needs}
 use Rattle.mesh.specs.FitLoops.{faceOf}
 use Rattle.mesh.proofs.fit.cycles.has_corners.Statement.{statement}

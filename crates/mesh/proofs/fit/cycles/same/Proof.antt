@@ -1,7 +1,7 @@
 -- `mesh::fit::cycles::same` meets its contract: the cycle, read from each of its corners in turn, is compared with the other.
 -- Assumes nothing.
 use mathlib.Core.Path.{_≡_, refl, sym, _∙_}
-use mathlib.Core.Bool.{Bool, true, false, _||_}
+use mathlib.Core.Bool.{Bool, true, _||_}
 use borrow.Author.Needs.{needs}
 use Prim.Native.Nat.{ℕ}
 use Rattle.solids.specs.declared.Vertex.{Vertex}

@@ -1,6 +1,6 @@
 -- `mesh::fit::cycles::vertex_at` meets its contract: the place p of the corners stands at the index p - 1.
 -- Assumes nothing.
-use Prim.Native.Nat.{ℕ, zero, suc, _-_, _≤_, _<_}
+use Prim.Native.Nat.{ℕ, zero, suc, _-_, _<_}
 use native.Mathlib.Omega.{arith}
 use mathlib.Core.Path.{_≡_, refl, sym, ap}
 use mathlib.Core.List.{List}

@@ -1,6 +1,6 @@
 -- `mesh::fit::reading::behind` meets its contract: where the numbers are no more than n, none stands behind the first n.
 -- Assumes nothing.
-use mathlib.Core.Path.{_≡_, sym}
+use mathlib.Core.Path.{sym}
 use borrow.Author.Needs.{needs}
 use denote.Ref.{now}
 use lib.ListN.{drop-of-length-le}

@@ -1,8 +1,7 @@
 -- `mesh::fit::reading::corners_of` meets its contract: the corners are the first numbers behind the kind, as many as the kind says, at most eight.
 -- Assumes nothing.
-use mathlib.Core.Path.{_≡_, refl}
 use borrow.Author.Needs.{needs}
-use Rattle.records.specs.Record.{kindOf, numbersOf, usedOf}
+use Rattle.records.specs.Record.{numbersOf, usedOf}
 use Rattle.mesh.proofs.fit.reading.corners_of.Statement.{statement}
 use Rattle.mesh.proofs.fit.reading.corners_of.Tie as tie
 

@@ -1,12 +1,10 @@
 -- `mesh::fit::reading::front` meets its contract: where the numbers are no more than n, they are the first n.
 -- Assumes nothing.
-use mathlib.Core.Path.{_≡_, sym}
-use native.Mathlib.Omega.{arith}
+use mathlib.Core.Path.{sym}
 use borrow.Author.Needs.{needs}
 use denote.Ref.{now}
 use lib.Seq.{take-all, length-take-le}
 use native.Mathlib.Nat.{le-of-lt}
-use lib.Seq.{take-all}
 use Rattle.mesh.proofs.fit.reading.front.Statement.{statement}
 use Rattle.mesh.proofs.fit.reading.front.Tie as tie
 

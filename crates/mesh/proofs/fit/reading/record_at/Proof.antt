@@ -2,7 +2,6 @@
 -- Assumes nothing.
 use Prim.Native.Nat.{_*_}
 use native.Mathlib.Nat.{add-sub-cancel-left}
-use mathlib.Core.Path.{_≡_, refl}
 use borrow.Author.Needs.{needs}
 use Rattle.records.specs.Record.{recordAt}
 use Rattle.mesh.proofs.fit.reading.record_at.Statement.{statement}

@@ -1,15 +1,14 @@
 -- `mesh::fit::sets::all_among` meets its contract. The loop's invariant: whether each number that is left is among the others is whether each of all is.
 -- The measure is what is left of the length. Assumes nothing.
-use Prim.Native.Nat.{ℕ, _-_}
-use mathlib.Core.Path.{_≡_, sym, _∙_}
-use mathlib.Core.Bool.{Bool, true, false}
+use Prim.Native.Nat.{_-_}
+use mathlib.Core.Path.{sym, _∙_}
 use borrow.Author.Needs.{needs}
 use borrow.Author.Tests.{not-true, not-false}
 use lib.ListN.{length}
 use denote.Ref.{now}
 use Rattle.laws.specs.Words.{every, among}
 use Rattle.laws.proofs.WordLaws.{Left, left-start}
-use Rattle.mesh.proofs.PassLaws.{every-here, every-next, every-end}
+use Rattle.laws.proofs.PassLaws.{every-here, every-next, every-end}
 use Rattle.mesh.proofs.fit.sets.all_among.Statement.{statement}
 use Rattle.mesh.proofs.fit.sets.all_among.Tie as tie
 

@@ -3,15 +3,13 @@
 use Prim.Native.Nat.{ℕ, _-_, _≤_, _+_, _<_}
 use native.Mathlib.Omega.{arith}
 use mathlib.Core.Path.{_≡_, refl, sym, _∙_}
-use mathlib.Core.Bool.{Bool, true, false}
+use mathlib.Core.Bool.{true, false}
 use mathlib.Core.List.{List}
 use mathlib.Core.Logic.{⊎-elim}
 use borrow.Author.Needs.{needs}
 use lib.ListN.{length, set, length-set, getD}
-use denote.Ref.{now}
 use Rattle.laws.specs.Words.{among}
-use Rattle.mesh.specs.FitLoops.{Collected}
-use Rattle.mesh.proofs.PassLaws.{Kept, kept-start, kept-yes, kept-no, kept-end}
+use Rattle.laws.proofs.PassLaws.{Kept, kept-start, kept-yes, kept-no, kept-end}
 use Rattle.mesh.proofs.fit.sets.common_of.Statement.{statement}
 use Rattle.mesh.proofs.fit.sets.common_of.Tie as tie
 
@@ -27,8 +25,8 @@ module _ {corners others start memory : List ℕ} {n i : ℕ} (w : Going corners
       → Going corners others start (set memory n (getD corners i 0)) (n + 1) (i + 1)
   passes r h e =
       record {
-      kept = kept-yes (λ v. among v others) corners (w .kept) 0 h (room r h) e;
-      size = length-set memory n (getD corners i 0) ∙ w .size
+        kept = kept-yes (λ v. among v others) corners (w .kept) 0 h (room r h) e;
+        size = length-set memory n (getD corners i 0) ∙ w .size;
       }
 
   fails : i < length corners → among (getD corners i 0) others ≡ false → Going corners others start memory n (i + 1)

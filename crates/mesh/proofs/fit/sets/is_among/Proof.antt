@@ -1,14 +1,11 @@
 -- `mesh::fit::sets::is_among` meets its contract. The loop's invariant: whether the number is among those that are left is whether it is among all.
 -- The measure is what is left of the length. Assumes nothing.
-use Prim.Native.Nat.{ℕ, _-_}
-use mathlib.Core.Path.{_≡_, sym, _∙_}
-use mathlib.Core.Bool.{true, false}
+use Prim.Native.Nat.{_-_}
 use borrow.Author.Needs.{needs}
-use borrow.Author.Tests.{eq-eqb, ne-eqb, not-true, not-false}
+use borrow.Author.Tests.{eq-eqb, ne-eqb}
 use lib.Dec.{eqb}
 use lib.ListN.{length}
-use denote.Ref.{now}
-use Rattle.laws.specs.Words.{some, every, among}
+use Rattle.laws.specs.Words.{some}
 use Rattle.laws.proofs.WordLaws.{Left, left-start, some-here, some-next, some-end}
 use Rattle.mesh.proofs.fit.sets.is_among.Statement.{statement}
 use Rattle.mesh.proofs.fit.sets.is_among.Tie as tie

@@ -1,7 +1,6 @@
 -- `mesh::fit::sets::same_set` meets its contract: each number of either list is among those of the other.
 -- Assumes nothing.
-use mathlib.Core.Path.{_≡_, sym, _∙_}
-use mathlib.Core.Bool.{Bool, true, false, _&&_}
+use mathlib.Core.Path.{sym, _∙_}
 use borrow.Author.Needs.{needs}
 use Rattle.mesh.proofs.fit.sets.same_set.Statement.{statement}
 use Rattle.mesh.proofs.fit.sets.same_set.Tie as tie

@@ -1,15 +1,36 @@
--- Loops that pass over a list: whether each member passes a test, and the members that pass, collected in lent memory.
--- And a search through gathered lists. Assumes nothing.
+-- Loops that pass over numbers or over a list: the least number that passes a test, whether each member passes, and the members that pass, collected
+-- in lent memory. And a search through gathered lists. Assumes nothing.
 use mathlib.Core.Path.{_≡_, refl, sym, ap, _∙_}
-use mathlib.Core.Bool.{Bool, true, false, cond, _||_, or-assoc}
+use mathlib.Core.Bool.{Bool, true, false, _||_, or-assoc}
 use mathlib.Core.List.{List, [], _∷_, _++_, append-assoc, append-nil}
 use Prim.Native.Nat.{ℕ, _+_, _≤_, _<_, zero-le}
 use native.Mathlib.Numerals.{add-one}
 use native.Mathlib.Omega.{arith}
 use lib.ListN.{length, getD, take, drop, set, drop-of-length-le}
 use lib.Seq.{drop-cons, take-suc-set}
+use Rattle.laws.specs.Searches.{least}
 use Rattle.laws.specs.Words.{every, some, keep, gather}
+use Rattle.laws.proofs.SearchLaws.{least-start, least-more, least-found}
 use Rattle.laws.proofs.WordLaws.{Left, left-here, left-next, left-end}
+
+-- the least number below n that passes a test: none below i does
+pub record Failed (p : ℕ → Bool) (n i : ℕ) : Type 0 where
+  pub high : i ≤ n
+  pub none : least p i ≡ 0
+
+module _ (p : ℕ → Bool) where
+  pub failed-start : (n : ℕ) → Failed p n 0
+  failed-start n = record { high = zero-le; none = least-start p }
+
+  module _ {n i : ℕ} (w : Failed p n i) where
+    pub failed-here : i < n → p i ≡ true → i + 1 ≡ least p n
+    failed-here h e = rw (add-one i) (sym (least-found p (w .none) e h))
+
+    pub failed-next : i < n → p i ≡ false → Failed p n (i + 1)
+    failed-next h e = record { high = omega arith; none = least-more p (w .none) e }
+
+    pub failed-end : n ≤ i → 0 ≡ least p n
+    failed-end h = let e : i ≡ n = omega (arith, w .high) in sym (w .none) ∙ ap (least p) e
 
 -- whether each member passes a test
 module _ {A : Type 0} (t : A → Bool) (d : A) {l : List A} {i : ℕ} (w : Left (every t) l i) where
@@ -47,22 +68,22 @@ module _ {A : Type 0} (t : A → Bool) (l : List A) where
     pub kept-yes : (d : A) → i < length l → n < length memory → t (getD l i d) ≡ true → Kept t l (set memory n (getD l i d)) (n + 1) (i + 1)
     kept-yes d h k e =
         record {
-        high = omega arith;
-        few = omega (arith, w .few);
-        these =
-            ap (λ (x : List A). x ++ keep t (drop (i + 1) l)) (stored (getD l i d) k)
-            ∙ append-assoc (take n memory) (getD l i d ∷ []) (keep t (drop (i + 1) l))
-            ∙ ap (λ (x : List A). take n memory ++ x) (sym (rest-yes d h e))
-            ∙ w .these
+          high = omega arith;
+          few = omega (arith, w .few);
+          these =
+              ap (λ (x : List A). x ++ keep t (drop (i + 1) l)) (stored (getD l i d) k)
+              ∙ append-assoc (take n memory) (getD l i d ∷ []) (keep t (drop (i + 1) l))
+              ∙ ap (λ (x : List A). take n memory ++ x) (sym (rest-yes d h e))
+              ∙ w .these;
         }
 
     -- the member fails, and nothing is stored
     pub kept-no : (d : A) → i < length l → t (getD l i d) ≡ false → Kept t l memory n (i + 1)
     kept-no d h e =
         record {
-        high = omega arith;
-        few = omega (arith, w .few);
-        these = ap (λ (x : List A). take n memory ++ x) (sym (rest-no d h e)) ∙ w .these
+          high = omega arith;
+          few = omega (arith, w .few);
+          these = ap (λ (x : List A). take n memory ++ x) (sym (rest-no d h e)) ∙ w .these;
         }
 
     pub kept-end : length l ≤ i → take n memory ≡ keep t l
