@@ -81,6 +81,12 @@ module _ {A : Type 0} (t : A → Bool) where
   every-at (x ∷ l) d zero p h = and-left (t x) (every t l) p
   every-at (x ∷ l) d (suc i) p h = every-at l d i (and-right (t x) (every t l) p) (le-of-suc-le-suc h)
 
+  -- where each member passes t, each passes a test u that follows
+  pub every-weaker : (u : A → Bool) → ((x : A) → T (t x) → T (u x)) → (l : List A) → T (every t l) → T (every u l)
+  every-weaker u f [] p = tt
+  every-weaker u f (x ∷ l) p =
+      and-both (u x) (every u l) (f x (and-left (t x) (every t l) p)) (every-weaker u f l (and-right (t x) (every t l) p))
+
   -- where no member passes u, each passes a test t that holds where u fails
   pub every-follows : (u : A → Bool) → ((x : A) → u x ≡ false → T (t x)) → (l : List A) → some u l ≡ false → T (every t l)
   every-follows u f [] e = tt
@@ -89,3 +95,8 @@ module _ {A : Type 0} (t : A → Bool) where
       follows : (a : Bool) → u x ≡ a → (some u l ≡ false → T (every t l)) → (a || some u l) ≡ false → T (t x && every t l)
       follows true p rest e = absurd (subst T e tt)
       follows false p rest e = and-both (t x) (every t l) (f x p) (rest e)
+
+  -- where each member passes t, none passes a test u that fails where t holds
+  pub none-follows : (u : A → Bool) → ((x : A) → T (t x) → u x ≡ false) → (l : List A) → T (every t l) → some u l ≡ false
+  none-follows u f [] p = refl
+  none-follows u f (x ∷ l) p = rw (f x (and-left (t x) (every t l) p)) (none-follows u f l (and-right (t x) (every t l) p))

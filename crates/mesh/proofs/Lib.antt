@@ -1,3 +1,4 @@
 -- What is proved of tables.
 pub mod FaceLaws
 pub mod FittingLaws
+pub mod JudgeLaws

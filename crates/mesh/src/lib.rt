@@ -2,6 +2,7 @@
 use faults::Refusal;
 
 mod fit;
+mod judge;
 
 // What judging a table answers.
 pub enum JudgeAnswer {

@@ -1,6 +1,6 @@
 -- The element record: nine numbers, its kind (4, 5, 6 or 8, its corner count), then eight vertex numbers, unused ones zero.
 -- Nothing outside this file knows the width of a record or where a field stands.
-use mathlib.Core.Bool.{Bool, true, false, cond, not, _&&_, _||_}
+use mathlib.Core.Bool.{Bool, cond, not, _&&_, _||_}
 use mathlib.Core.List.{List, [], _∷_, _++_}
 use Prim.Native.Nat.{ℕ, zero, suc, _*_}
 use lib.Dec.{eqb, ltb}
@@ -57,7 +57,8 @@ strayVertex limit v = eqb v 0 || ltb limit v
 abbrev pub notZero : ℕ → Bool
 notZero v = not (eqb v 0)
 
--- KIND, VERTEX, SPARE, REPEAT, in this order: the first fault of a record whose vertex numbers may go up to a limit
+-- KIND, VERTEX, SPARE, REPEAT, in this order: the first fault of a record whose vertex numbers may go up to a limit;
+-- what is not nine numbers is KIND
 unfoldable pub recordFinding : ℕ → List ℕ → Finding
 recordFinding limit r =
     cond (not (eqb (length r) width && isKind (kindOf r))) (Found Kind)

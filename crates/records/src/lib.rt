@@ -1,12 +1,17 @@
 // The element record: its fields, and how it is judged. The definitions stand in specs/, what is proved of them in proofs/Theorems.antt.
 ghost use mathlib.Core.Path.{_≡_};
 ghost use Rattle.laws.specs.Words.{some, among, distinct};
-ghost use Rattle.records.specs.Record.{kindOf, isKind, solidOf, cornerAt, strayVertex, notZero, recordFinding};
+ghost use Rattle.records.specs.Record.{kindOf, isKind, solidOf, cornerAt, strayVertex, notZero, recordFinding, recordAt};
 use faults::Fault;
 use faults::Finding;
 use solids::Place;
 use solids::Solid;
 use solids::Vertex;
+
+// How many numbers a record has, and how many of them are vertex numbers.
+const WIDTH: usize = 9;
+
+const NUMBERS: usize = 8;
 
 // The solid of a kind; any other number is refused before its solid is asked for.
 pub fn solid_of(kind: u16) -> Solid
@@ -43,13 +48,29 @@ pub fn corner(element: &[u16], place: Place) -> Vertex
     if at == 0 {
         return Vertex(0);
     }
-    if 8 < at {
+    if NUMBERS < at {
         return Vertex(0);
     }
     if element.len() <= at {
         return Vertex(0);
     }
     Vertex(element[at])
+}
+
+// The record k of a table, from 0; where the table ends before it does, what there is of it.
+pub fn record_at(table: &[u16], k: usize) -> &[u16]
+    ensures { λ r. ⌜ now r ≡ recordAt (now (table .entry)) k ⌝ }
+{
+    let len = table.len();
+    if len / WIDTH < k {
+        return &table[len..];
+    }
+    let start = WIDTH * k;
+    if len - start < WIDTH {
+        return &table[start..];
+    }
+    let end = start + WIDTH;
+    &table[start..end]
 }
 
 // A kind is 4, 5, 6 or 8.
@@ -132,7 +153,7 @@ fn is_distinct(numbers: &[u16]) -> bool
 pub fn judge_record(element: &[u16], limit: usize) -> Finding
     ensures { λ r. ⌜ r ≡ recordFinding limit (now (element .entry)) ⌝ }
 {
-    if element.len() != 9 {
+    if element.len() != WIDTH {
         return Finding::Found(Fault::Kind);
     }
     let kind = element[0];

@@ -2,9 +2,7 @@
 -- The measure is what is left of the length. Assumes nothing.
 use borrow.Author.Needs.{needs}
 use borrow.Author.Tests.{eq-eqb, ne-eqb}
-use Prim.Native.Nat.{ℕ, _-_}
-use mathlib.Core.Path.{_≡_}
-use mathlib.Core.Bool.{true, false}
+use Prim.Native.Nat.{_-_}
 use lib.ListN.{length}
 use Rattle.laws.specs.Words.{some}
 use Rattle.laws.proofs.WordLaws.{Left, left-start, some-here, some-next, some-end}

@@ -4,8 +4,9 @@ use borrow.Author.Needs.{needs}
 use borrow.Author.Tests.{eq-eqb, ne-eqb, lt-ltb, le-ltb}
 use native.Mathlib.Omega.{arith}
 use Prim.Native.Nat.{ℕ, _-_, _≤_, _<_}
-use mathlib.Core.Path.{_≡_}
-use mathlib.Core.Bool.{true, false}
+use mathlib.Core.Path.{_≡_, ap, _∙_}
+use mathlib.Core.Bool.{Bool, true, false, _||_}
+use lib.Dec.{ltb}
 use lib.ListN.{length}
 use Rattle.laws.specs.Words.{some}
 use Rattle.laws.proofs.WordLaws.{Left, left-start, some-here, some-next, some-end}
@@ -21,13 +22,13 @@ abbrev μ-loop : tie.MeasureT-loop
 
 -- the tests, over plain numbers
 zero-strays : (limit v : ℕ) → v ≡ 0 → strayVertex limit v ≡ true
-zero-strays limit v e = rw (eq-eqb v 0 e)
+zero-strays limit v e = ap (λ (b : Bool). b || ltb limit v) (eq-eqb v 0 e)
 
 high-strays : (limit v : ℕ) → (v ≡ 0 → ⊥) → limit < v → strayVertex limit v ≡ true
-high-strays limit v n h = rw (ne-eqb v 0 n, lt-ltb limit v h)
+high-strays limit v n h = ap (λ (b : Bool). b || ltb limit v) (ne-eqb v 0 n) ∙ lt-ltb limit v h
 
 others-stay : (limit v : ℕ) → (v ≡ 0 → ⊥) → v ≤ limit → strayVertex limit v ≡ false
-others-stay limit v n h = rw (ne-eqb v 0 n, le-ltb limit v h)
+others-stay limit v n h = ap (λ (b : Bool). b || ltb limit v) (ne-eqb v 0 n) ∙ le-ltb limit v h
 
 loop-holds : tie.Need-loop-holds Inv-loop μ-loop
 loop-holds c = left-start _ _

@@ -10,9 +10,6 @@ use Rattle.laws.specs.Words.{among, distinct}
 use Rattle.laws.proofs.WordLaws.{Left, left-start, distinct-here, distinct-next, distinct-end, part-from}
 use Rattle.records.proofs.is_distinct.Statement.{statement}
 use Rattle.records.proofs.is_distinct.Tie as tie
-use Rattle.records.proofs.is_distinct.Reads as reads
-use Rattle.records.proofs.is_distinct.Lts as lts
-use Rattle.records.proofs.is_among.Reads as is-among-reads
 
 abbrev Inv-loop : tie.InvT-loop
 Inv-loop numbers i₀ i = Left distinct numbers i

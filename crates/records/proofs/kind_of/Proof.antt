@@ -1,7 +1,6 @@
 -- `records::kind_of` meets its contract: the kind is the first number, and where there is none it is 0.
 -- Assumes nothing.
 use borrow.Author.Needs.{needs}
-use native.Mathlib.Omega.{arith}
 use mathlib.Core.Path.{refl, sym}
 use lib.ListN.{List·getD-eq-default}
 use Rattle.records.specs.Record.{kindOf}

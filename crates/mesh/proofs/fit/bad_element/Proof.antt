@@ -1,7 +1,6 @@
 -- `mesh::fit::bad_element` meets its contract. The loop's invariant: no element before j has a misfit. The measure is how many are left.
 -- Assumes nothing.
 use Prim.Native.Nat.{ℕ, _-_}
-use native.Mathlib.Omega.{arith}
 use mathlib.Core.Path.{sym, ap, _∙_}
 use mathlib.Core.Bool.{Bool}
 use mathlib.Core.List.{List}
@@ -28,7 +27,7 @@ loop-holds : tie.Need-loop-holds Inv-loop μ-loop
 loop-holds c = failed-start _ _
 
 misfit-of-requires : tie.Need-misfit-of-requires Inv-loop μ-loop
-misfit-of-requires c κs = omega (arith, c .before .before .before .pre .long)
+misfit-of-requires c κs = search needs
 
 add-result : tie.Need-add-result Inv-loop μ-loop
 add-result c = search needs
