@@ -1,4 +1,6 @@
 -- What is proved of tables.
+pub mod FitFaceLaws
+pub mod FittingLaws
 pub mod JudgeLaws
 pub mod InsertLaws
 pub mod CornerLaws

@@ -3,6 +3,7 @@ use faults::Refusal;
 
 mod blocks;
 mod cutting;
+mod fit;
 mod judge;
 
 // What judging a table answers.
