@@ -2,6 +2,7 @@
 pub mod FitFaceLaws
 pub mod FittingLaws
 pub mod JudgeLaws
+pub mod VerdictLaws
 pub mod InsertLaws
 pub mod CornerLaws
 pub mod LowestLaws
