@@ -3,6 +3,7 @@ pub mod FitFaceLaws
 pub mod FittingLaws
 pub mod JudgeLaws
 pub mod VerdictLaws
+pub mod EntryLaws
 pub mod InsertLaws
 pub mod CornerLaws
 pub mod LowestLaws
