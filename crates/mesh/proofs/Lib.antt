@@ -16,3 +16,5 @@ pub mod ShapeBounds
 pub mod RecordCutLaws
 pub mod StoreLaws
 pub mod MeshCutLaws
+pub mod AcceptedLaws
+pub mod Theorems
