@@ -2,3 +2,4 @@
 pub mod Judge
 pub mod Cutting
 pub mod BlockLoops
+pub mod Signs

@@ -205,46 +205,15 @@ fn no_tets() -> Block
     }
 }
 
-// The kind of a record.
-fn kind_of(numbers: &[u16]) -> u16
-    requires { ⌜ Whole (now numbers) ⌝ }
-    ensures { λ r. ⌜ r ≡ kindOf (now (numbers .entry)) ⌝ }
-{
-    numbers[0]
-}
-
-// The solid of a record.
-fn solid_in(numbers: &[u16]) -> Solid
-    requires { ⌜ Whole (now numbers) ⌝ }
-    ensures { λ r. ⌜ r ≡ solidOf (kindOf (now (numbers .entry))) ⌝ }
-{
-    let kind = kind_of(numbers);
-    if kind == 4 {
-        return Solid::Tetrahedron;
-    }
-    if kind == 5 {
-        return Solid::Pyramid;
-    }
-    if kind == 6 {
-        return Solid::Prism;
-    }
-    Solid::Hexahedron
-}
-
-// The vertex at a place of a record; none at a place that its solid does not have.
-fn corner(numbers: &[u16], place: Place) -> Vertex
-    requires { ⌜ Whole (now numbers) ⌝ }
+// The vertex at a place of the element; none at a place that its solid does not have.
+fn vertex_at(numbers: &[u16], place: Place) -> Vertex
     ensures { λ r. ⌜ r .0 ≡ at (usedOf (now (numbers .entry))) (place .0) ⌝ }
 {
-    let kind = kind_of(numbers);
-    if place.0 == 0 {
-        return Vertex(0);
-    }
+    let kind = records::kind_of(numbers);
     if kind < (place.0 as u16) {
         return Vertex(0);
     }
-    let i = place.0 as usize;
-    Vertex(numbers[i])
+    records::corner(numbers, place)
 }
 
 // The place of the lowest number.
@@ -252,12 +221,12 @@ fn lowest_place(numbers: &[u16]) -> Place
     requires { ⌜ Whole (now numbers) ⌝ }
     ensures { λ r. ⌜ r .0 ≡ first (usedOf (now (numbers .entry))) ⌝ }
 {
-    let last = kind_of(numbers) as u8;
+    let last = records::kind_of(numbers) as u8;
     let mut place = last;
-    let mut number = corner(numbers, Place(last)).0;
+    let mut number = vertex_at(numbers, Place(last)).0;
     let mut i = last - 1;
     while 0 < i {
-        let v = corner(numbers, Place(i)).0;
+        let v = vertex_at(numbers, Place(i)).0;
         if v <= number {
             place = i;
             number = v;
@@ -278,17 +247,16 @@ fn opposite_place(place: Place) -> Place
 
 // The face i, from 0, of a record whose solid is given.
 fn face_of(numbers: &[u16], solid: Solid, i: usize) -> Face
-    requires { ⌜ Whole (now numbers) ⌝ }
     ensures { λ r. ⌜ faceOf r ≡ faceIn solid (usedOf (now (numbers .entry))) i ⌝ }
 {
-    let p = corner(numbers, solids::face_place(solid, i, 0));
-    let q = corner(numbers, solids::face_place(solid, i, 1));
-    let r = corner(numbers, solids::face_place(solid, i, 2));
+    let p = vertex_at(numbers, solids::face_place(solid, i, 0));
+    let q = vertex_at(numbers, solids::face_place(solid, i, 1));
+    let r = vertex_at(numbers, solids::face_place(solid, i, 2));
     let last = solids::face_place(solid, i, 3);
     if last.0 == 0 {
         return Face::Three(p, q, r);
     }
-    Face::Four(p, q, r, corner(numbers, last))
+    Face::Four(p, q, r, vertex_at(numbers, last))
 }
 
 // A vertex is one of three.
@@ -377,7 +345,6 @@ fn with_bit(number: usize, low: Vertex, high: Vertex, face: Face) -> usize
 
 // The choice of far diagonals of a hexahedron, the bit of its first far face last.
 fn diagonals(numbers: &[u16], low: Vertex, high: Vertex) -> usize
-    requires { ⌜ Whole (now numbers) ⌝ }
     requires { ⌜ choice (low .0) (high .0) (facesOf (element Hexahedron (usedOf (now numbers)))) ≤ 7 ⌝ }
     ensures { λ r. ⌜ r ≡ choice (low .0) (high .0) (facesOf (element Hexahedron (usedOf (now (numbers .entry))))) ⌝ }
 {
@@ -398,37 +365,34 @@ fn row_of(numbers: &[u16]) -> usize
     ensures { λ r. ⌜ r ≡ rowOf (usedOf (now (numbers .entry))) ⌝ }
 {
     let place = lowest_place(numbers);
-    let low = corner(numbers, place);
-    let high = corner(numbers, opposite_place(place));
+    let low = vertex_at(numbers, place);
+    let high = vertex_at(numbers, opposite_place(place));
     let number = diagonals(numbers, low, high);
     8 * (place.0 as usize - 1) + number
 }
 
 // The vertex of a record at the place `place` of a row of cuts.
-fn row_corner(numbers: &[u16], row: usize, place: usize) -> Vertex
-    requires { ⌜ Whole (now numbers) ⌝ }
+fn row_vertex(numbers: &[u16], row: usize, place: usize) -> Vertex
     ensures { λ r. ⌜ r .0 ≡ at (usedOf (now (numbers .entry))) (rowPlace row place) ⌝ }
 {
-    corner(numbers, solids::row_place(row, place))
+    vertex_at(numbers, solids::row_place(row, place))
 }
 
 // The tetrahedron k, from 0, of a row of cuts, in vertex numbers.
 fn row_tet(numbers: &[u16], row: usize, k: usize) -> Tet
-    requires { ⌜ Whole (now numbers) ⌝ }
     requires { ⌜ k < 6 ⌝ }
     ensures { λ t. ⌜ tetOf t ≡ onTet (at (usedOf (now (numbers .entry)))) (rowTet row k) ⌝ }
 {
     Tet {
-        a: row_corner(numbers, row, 4 * k),
-        b: row_corner(numbers, row, 4 * k + 1),
-        c: row_corner(numbers, row, 4 * k + 2),
-        d: row_corner(numbers, row, 4 * k + 3),
+        a: row_vertex(numbers, row, 4 * k),
+        b: row_vertex(numbers, row, 4 * k + 1),
+        c: row_vertex(numbers, row, 4 * k + 2),
+        d: row_vertex(numbers, row, 4 * k + 3),
     }
 }
 
 // A block with the tetrahedron k of a row of cuts, unless that is four zeros.
 fn with_row_tet(block: Block, numbers: &[u16], row: usize, k: usize) -> Block
-    requires { ⌜ Whole (now numbers) ⌝ }
     requires { ⌜ k < 6 ⌝ }
     requires { ⌜ block .count < 6 ⌝ }
     ensures { λ r. ⌜ Grown block (rowTetsAt (usedOf (now (numbers .entry))) row k) r ⌝ }
@@ -512,8 +476,8 @@ fn fan_block(numbers: &[u16]) -> Block
     requires { ⌜ length (fan (elementOf (now numbers))) ≤ 6 ⌝ }
     ensures { λ r. ⌜ BlockIs r (inOrder (fan (elementOf (now (numbers .entry))))) ⌝ }
 {
-    let solid = solid_in(numbers);
-    let low = corner(numbers, lowest_place(numbers));
+    let solid = records::solid_of(records::kind_of(numbers));
+    let low = vertex_at(numbers, lowest_place(numbers));
     let mut block = no_tets();
     let mut i = solids::face_count(solid);
     while 0 < i {
@@ -530,7 +494,7 @@ pub fn block_of(numbers: &[u16]) -> Block
     requires { ⌜ Whole (now numbers) ⌝ }
     ensures { λ r. ⌜ BlockIs r (cut (elementOf (now (numbers .entry)))) ⌝ }
 {
-    if kind_of(numbers) == 8 {
+    if records::kind_of(numbers) == 8 {
         return row_block(numbers);
     }
     fan_block(numbers)

@@ -3,6 +3,7 @@ use faults::Refusal;
 
 mod blocks;
 mod cutting;
+mod judge;
 
 // What judging a table answers.
 pub enum JudgeAnswer {
@@ -18,5 +19,19 @@ pub struct CutCounts {
 // What cutting a table answers.
 pub enum CutAnswer {
     Done(CutCounts),
+    Refused(Refusal),
+}
+
+// What an accepted sign report counts.
+pub struct SignCounts {
+    pub positive: usize,
+    pub zero: usize,
+    pub negative: usize,
+    pub unsound: usize,
+}
+
+// What a sign report answers.
+pub enum SignAnswer {
+    Done(SignCounts),
     Refused(Refusal),
 }

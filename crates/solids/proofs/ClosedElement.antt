@@ -11,7 +11,7 @@ use Rattle.laws.specs.Words.{gather, every, among}
 use Rattle.solids.specs.Solids.{Solid, Face, three, four, Tri, tri, Tet, Element, element, faces, at, onTri, onTet, onFace, ofFace, ofTri, facesOf}
 use Rattle.solids.specs.Cut.{turned, halves, cutFace, inOrder, first, cut}
 use Rattle.solids.specs.Surface.{sides, back, sameTri, times, owners, skin, within, Closed}
-use Rattle.laws.proofs.TestLaws.{and-left, and-right, T-true, true-T}
+use Rattle.laws.proofs.TestLaws.{and-left, and-right}
 use Rattle.solids.proofs.RenamingLaws.{cutsAt, asked, cuts-on, eqb-on, turned-on, halves-on}
 use Rattle.solids.proofs.NumberingLaws.{number, number-inj}
 use Rattle.solids.proofs.ShapeLaws.{shape, Proper, turnsOf, faces-f, faces-inside, tets-shape, at-shape}

@@ -13,9 +13,10 @@ use Rattle.solids.specs.Rotations.{eqFace, sameFace}
 use Rattle.solids.specs.Cut.{turned, turns, lowestFirst, halves, cutFace}
 use Rattle.solids.specs.Fit.{backFace}
 use Rattle.solids.specs.Surface.{back, sameTri, times}
+use Rattle.laws.proofs.TestLaws.{or-cases}
 use Rattle.solids.proofs.WrittenLaws.{Apart, Least, first, second, third, fourth, least}
 use Rattle.solids.proofs.SideLaws.{Same, s0, s1, s2, same-right, same-back, same-test, test-same, bool-iff}
-use Rattle.solids.proofs.TurnLaws.{turns-0, turns-1, turns-2, turns-3, cycle-apart, eqFace→eq, or-cases}
+use Rattle.solids.proofs.TurnLaws.{turns-0, turns-1, turns-2, turns-3, cycle-apart, eqFace→eq}
 
 abbrev pub FaceApart : Face ℕ → Type 0
 FaceApart (three p q r) = Unit {0}

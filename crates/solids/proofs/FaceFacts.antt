@@ -14,7 +14,8 @@ use Rattle.solids.specs.Solids.{Solid, tetrahedron, pyramid, prism, hexa
 use Rattle.solids.specs.Cut.{turned, turns, halves, cutFace, lowestFirst, first, cut}
 use Rattle.solids.specs.Fit.{sameSet}
 use Rattle.solids.specs.Surface.{sides, sameTri, times, owners, within}
-use Rattle.laws.proofs.TestLaws.{and-left, and-right, true-T, T-true, distinct-cons, not-among-cons}
+use Rattle.laws.proofs.TestLaws.{and-left, and-right, T-true, true-T, not-among-cons, distinct-cons}
+use Rattle.laws.proofs.EveryLaws.{every-at, every-implies, every-map}
 use Rattle.solids.proofs.RenamingLaws.{apart-on, eqb-on}
 use Rattle.solids.proofs.NumberingLaws.{number, number-inj, inside}
 use Rattle.solids.proofs.ShapeLaws.{shape, Proper, faces-f, faces-inside, at-f}
@@ -22,7 +23,7 @@ use Rattle.solids.proofs.HalfLaws.{allHalves, ways-of, at-half}
 use Rattle.solids.proofs.SideLaws.{Same, s0, s1, s2, turn, same-sym, test-same, found}
 use Rattle.solids.proofs.ClosedElement.{owners-shape, within-same}
 use Rattle.solids.proofs.TurnLaws.{ofFour, apartFaces}
-use Rattle.solids.proofs.RelistedLaws.{every-at, among-on}
+use Rattle.solids.proofs.RelistedLaws.{among-on}
 use Rattle.solids.proofs.CycleLaws.{FaceApart, next, holds-next}
 
 -- corners of an element
@@ -38,14 +39,6 @@ at-among vs (suc i) h = go vs i (ltb→lt i (length vs) h)
         or-right : (a b : Bool) → T b → T (a || b)
         or-right true b t = tt
         or-right false b t = t
-
-every-map : (P : ℕ → Bool) (g : ℕ → ℕ) (Q : ℕ → Bool) → ((p : ℕ) → T (Q p) → T (P (g p))) → (l : List ℕ) → T (every Q l) → T (every P (map g l))
-every-map P g Q e [] h = tt
-every-map P g Q e (x ∷ l) h = both (P (g x)) (every P (map g l)) (e x (and-left (Q x) (every Q l) h)) (every-map P g Q e l (and-right (Q x) (every Q l) h))
-  where
-    both : (a b : Bool) → T a → T b → T (a && b)
-    both true b p q = q
-    both false b p q = absurd p
 
 ofFace-on : (f : ℕ → ℕ) (F : Face ℕ) → ofFace (onFace f F) ≡ map f (ofFace F)
 ofFace-on f (three p q r) = refl
@@ -144,22 +137,6 @@ apart₃-on f inj (tri a b c) h =
     let bc = not-among-cons b c [] (v .0) in
     record { ab = λ e. ab .0 (inj a b e); ac = λ e. ac .0 (inj a c e); bc = λ e. bc .0 (inj b c e) }
 
-pub every-implies : (P Q : ℕ → Bool) → ((v : ℕ) → T (P v) → T (Q v)) → (l : List ℕ) → T (every P l) → T (every Q l)
-every-implies P Q e [] h = tt
-every-implies P Q e (x ∷ l) h = both (Q x) (every Q l) (e x (and-left (P x) (every P l) h)) (every-implies P Q e l (and-right (P x) (every P l) h))
-  where
-    both : (a b : Bool) → T a → T b → T (a && b)
-    both true b p q = q
-    both false b p q = absurd p
-
-pub among-every : (P : ℕ → Bool) (l : List ℕ) → T (every P l) → (v : ℕ) → T (among v l) → T (P v)
-among-every P [] h v m = absurd m
-among-every P (x ∷ l) h v m = go (eqb v x) refl m (among-every P l (and-right (P x) (every P l) h) v)
-  where
-    go : (b : Bool) → eqb v x ≡ b → T (b || among v l) → (T (among v l) → T (P v)) → T (P v)
-    go true e m ih = subst (λ (y : ℕ). T (P y)) (sym (eqb→eq v x (true-T e))) (and-left (P x) (every P l) h)
-    go false e m ih = ih m
-
 module _ (s : Solid) (vs : List ℕ) (h : Proper s vs) where
   inj : (p q : ℕ) → number vs p ≡ number vs q → p ≡ q
   inj = number-inj vs (h .apart-all)
@@ -178,7 +155,7 @@ module _ (s : Solid) (vs : List ℕ) (h : Proper s vs) where
       ∙ count-on (number vs) inj (g .0) (faces s)
       ∙ eqb→eq (count (λ G. sameSet (ofFace (g .0)) (ofFace G)) (faces s)) 1 (every-at (onceOk (faces s)) (faces s) (faces-once s) (g .0) (g .1))
 
-  number-among : (p : ℕ) → T (inside (corners s) p) → T (among (number vs p) vs)
+  pub number-among : (p : ℕ) → T (inside (corners s) p) → T (among (number vs p) vs)
   number-among p i = subst (λ (v : ℕ). T (among v vs)) (at-f s vs h p i) (at-among vs p (subst (λ (n : ℕ). T (inside n p)) (sym (h .many)) i))
 
   pub face-corners : (F : Face ℕ) → List·Memᴰ F (facesOf (element s vs)) → T (every (λ v. among v vs) (ofFace F))

@@ -16,7 +16,7 @@ use Rattle.solids.proofs.NumberingLaws.{number, number-inj, at-place}
 use Rattle.solids.proofs.ShapeLaws.{far, shape, Proper, turnsOf, first-inside, cut-shape, allShapes, at-shape}
 use Rattle.solids.proofs.RowLaws.{eqTets, eqTets→eq}
 use Rattle.solids.proofs.TurnLaws.{half}
-use Rattle.solids.proofs.SideLaws.{s1, s2, same-right, count-append}
+use Rattle.solids.proofs.SideLaws.{s1, s2, same-right}
 
 -- Only the diagonal of a far face counts, and not from which of its ends it is cut.
 abbrev pub halfOk : Solid → ℕ → List ℕ → Bool

@@ -23,4 +23,9 @@ pub mod DiagonalLaws
 pub mod HalfLaws
 pub mod RotationWords
 pub mod RotationsComplete
+pub mod CountLaws
+pub mod EvenReorderings
+pub mod ReferenceTest
+pub mod FilledLaws
+pub mod TetLaws
 pub mod Theorems

@@ -13,11 +13,12 @@ use Rattle.laws.specs.Words.{count, gather, every, among, lowest, keep}
 use Rattle.solids.specs.Solids.{Solid, tetrahedron, pyramid, prism, hexahedron, Face, three, four, Tri, tri, Tet, tet, Element, element, corners, faces, at, onTri, onTet, onFace, ofFace, ofTri, holds, facesOf}
 use Rattle.solids.specs.Cut.{placeOf, turned, turns, halves, cutFace, inOrder, first, tetsOf, cut}
 use Rattle.solids.specs.Surface.{sides, back, sameTri, times, owners, skin, within}
-use Rattle.laws.proofs.TestLaws.{and-left, and-right, T-true, true-T}
+use Rattle.laws.proofs.TestLaws.{or-cases, and-left, and-right, true-T}
+use Rattle.laws.proofs.EveryLaws.{count-append}
 use Rattle.solids.proofs.RenamingLaws.{cutsAt, asked, cuts-on, eqb-on, turned-on, halves-on}
 use Rattle.solids.proofs.NumberingLaws.{number, number-inj, inside, at-number, lowest-place}
 use Rattle.solids.proofs.ShapeLaws.{far, shape, Proper, turnsOf, faces-f, faces-inside, lowest-f, at-f, tets-shape, allShapes, at-shape}
-use Rattle.solids.proofs.SideLaws.{Same, s0, s1, s2, turn, same-back, times-same, owners-inOrder, times-on, sides-on, back-on, found, count-append}
+use Rattle.solids.proofs.SideLaws.{Same, s0, s1, s2, turn, same-back, times-same, owners-inOrder, times-on, sides-on, back-on, found}
 use Rattle.solids.proofs.TurnLaws.{half}
 use Rattle.solids.proofs.HalfLaws.{allHalves, half-turned}
 
@@ -54,10 +55,6 @@ pub lowest-at : (vs : List ℕ) (p : ℕ) → T (inside (length vs) p) → lowes
 lowest-at vs zero h = absurd h
 lowest-at [] (suc i) h = absurd (not-suc-le-zero (ltb→lt i 0 h))
 lowest-at (v ∷ vs) (suc i) h = lowest-le v vs i (ltb→lt i (length (v ∷ vs)) h)
-
-or-cases : (a b : Bool) → T (a || b) → T a ⊎ T b
-or-cases true b t = inl tt
-or-cases false b t = inr t
 
 module _ (s : Solid) (vs : List ℕ) (h : Proper s vs) where
   inj : (p q : ℕ) → number vs p ≡ number vs q → p ≡ q

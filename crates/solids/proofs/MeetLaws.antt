@@ -14,28 +14,12 @@ use Rattle.solids.specs.Rotations.{sameFace}
 use Rattle.solids.specs.Cut.{cutFace, cut}
 use Rattle.solids.specs.Fit.{proper, common, sameSet, hasEdge, backFace, fits}
 use Rattle.solids.specs.Surface.{back, times, owners, within, skin, Closed}
-use Rattle.laws.proofs.TestLaws.{and-left, and-right, true-T, T-true}
+use Rattle.laws.proofs.TestLaws.{or-cases, or-left, or-right, and-left, and-right, true-T}
+use Rattle.laws.proofs.EveryLaws.{some-at, among-every}
 use Rattle.solids.proofs.ShapeLaws.{Proper}
-use Rattle.solids.proofs.TurnLaws.{or-cases}
 use Rattle.solids.proofs.CycleLaws.{FaceApart, Cycle, test-cycle, times-across, holds-across, back-back}
 use Rattle.solids.proofs.ClosedElement.{closed}
-use Rattle.solids.proofs.FaceFacts.{TriApart, Apart₃, among-every, every-implies, owned, face-apart, face-corners, face-once}
-
-pub some-at : {A : Type 0} (P : A → Bool) (l : List A) → T (some P l) → (x : A) × List·Memᴰ x l × T (P x)
-some-at P [] h = absurd h
-some-at {A} P (x ∷ l) h = go (or-cases (P x) (some P l) h) (some-at P l)
-  where
-    go : T (P x) ⊎ T (some P l) → (T (some P l) → (y : A) × List·Memᴰ y l × T (P y)) → (y : A) × List·Memᴰ y (x ∷ l) × T (P y)
-    go (inl p) ih = (x, List·Memᴰ·head refl, p)
-    go (inr q) ih = let r = ih q in (r .0, List·Memᴰ·tail (r .1), r .2)
-
-or-left : (a b : Bool) → T a → T (a || b)
-or-left true b t = tt
-or-left false b t = absurd t
-
-or-right : (a b : Bool) → T b → T (a || b)
-or-right true b t = tt
-or-right false b t = t
+use Rattle.solids.proofs.FaceFacts.{TriApart, Apart₃, owned, face-apart, face-corners, face-once}
 
 -- what a face shared by two elements is
 pub record Shared (e x : Element) : Type 0 where

@@ -14,10 +14,9 @@ use Rattle.solids.specs.Solids.{Face, Tri, Tet, Element, ofFace, facesOf
 use Rattle.solids.specs.Cut.{cutFace, cut, cutMesh}
 use Rattle.solids.specs.Fit.{proper, sameSet, fits, fitting, isOuter, outerFaces}
 use Rattle.solids.specs.Surface.{sides, back, sameTri, times, owners, skin, Closed, SurfaceCut}
-use Rattle.laws.proofs.TestLaws.{and-left, and-right, true-T, T-true}
-use Rattle.solids.proofs.SideLaws.{count-append}
+use Rattle.laws.proofs.TestLaws.{and-left, and-right}
+use Rattle.laws.proofs.EveryLaws.{every-at, count-append}
 use Rattle.solids.proofs.CycleLaws.{back-back}
-use Rattle.solids.proofs.RelistedLaws.{every-at}
 use Rattle.solids.proofs.MeetLaws.{Meet, meet-sym, fits-meet}
 use Rattle.solids.proofs.PairLaws.{Good, good, total, total-mem, times-faces, face-le, alone, faced, crossed, count-mem}
 

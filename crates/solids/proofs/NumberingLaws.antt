@@ -14,7 +14,7 @@ use borrow.Author.Tests.{eqb-true, eqb-false, eq-eqb, ne-eqb, leb-true, leb-fals
 use Rattle.laws.specs.Words.{among, distinct, every, lowest}
 use Rattle.solids.specs.Solids.{Face, three, four, Tet, tet, ofTet, onFace, onTet, ofFace, at}
 use Rattle.solids.specs.Cut.{placeOf}
-use Rattle.laws.proofs.TestLaws.{and-left, and-right, not-among-cons, distinct-cons, below, at-below, true-T}
+use Rattle.laws.proofs.TestLaws.{and-left, and-right, below, at-below, not-among-cons, distinct-cons}
 
 abbrev Below : ℕ → List ℕ → Type 0
 Below h [] = Unit {0}

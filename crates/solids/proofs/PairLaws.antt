@@ -14,12 +14,12 @@ use Rattle.solids.specs.Solids.{Solid, Face, Tri, tri, Element, element,
 use Rattle.solids.specs.Cut.{cutFace, cut}
 use Rattle.solids.specs.Fit.{proper, sameSet}
 use Rattle.solids.specs.Surface.{back, sameTri, times, owners, within, skin, Closed}
-use Rattle.laws.proofs.TestLaws.{and-left, and-right, true-T, T-true}
+use Rattle.laws.proofs.TestLaws.{or-left, or-right, and-both, and-left, and-right, true-T}
+use Rattle.laws.proofs.EveryLaws.{every-both, every-implies, count-append, among-every}
 use Rattle.solids.proofs.ShapeLaws.{Proper}
-use Rattle.solids.proofs.SideLaws.{count-append}
 use Rattle.solids.proofs.CycleLaws.{FaceApart, back-back}
 use Rattle.solids.proofs.ClosedElement.{closed}
-use Rattle.solids.proofs.FaceFacts.{Apart₃, among-every, every-implies, owned, face-apart, face-corners, face-once, cut-within}
+use Rattle.solids.proofs.FaceFacts.{Apart₃, owned, face-apart, face-corners, face-once, cut-within}
 use Rattle.solids.proofs.MeetLaws.{Shared, Meet}
 
 -- what is known of an accepted element
@@ -65,16 +65,6 @@ times-faces t (F ∷ fs) = count-append (sameTri t) (cutFace F) (gather cutFace 
 pub face-le : (t : Tri ℕ) (e : Element) (F : Face ℕ) → List·Memᴰ F (facesOf e) → times t (cutFace F) ≤ times t (skin e)
 face-le t e F m = rw (times-faces t (facesOf e)) (total-mem (λ G. times t (cutFace G)) (facesOf e) F m)
 
-every-both : (P Q R : ℕ → Bool) → ((v : ℕ) → T (P v) → T (Q v) → T (R v)) → (l : List ℕ) → T (every P l) → T (every Q l) → T (every R l)
-every-both P Q R e [] p q = tt
-every-both P Q R e (x ∷ l) p q =
-    both (R x) (every R l) (e x (and-left (P x) (every P l) p) (and-left (Q x) (every Q l) q))
-    (every-both P Q R e l (and-right (P x) (every P l) p) (and-right (Q x) (every Q l) q))
-  where
-    both : (a b : Bool) → T a → T b → T (a && b)
-    both true b p q = q
-    both false b p q = absurd p
-
 and-swap : (a b c : Bool) → T (a && (b && (c && true))) → T (a && (c && (b && true)))
 and-swap true true true t = tt
 and-swap true true false t = absurd t
@@ -87,20 +77,8 @@ every-back P (tri a b c) h = and-swap (P a) (P c) (P b) h
 each-self : (l m : List ℕ) → ((v : ℕ) → T (among v l) → T (among v m)) → T (every (λ v. among v m) l)
 each-self [] m e = tt
 each-self (x ∷ l) m e =
-    both (among x m) (every (λ v. among v m) l) (e x (or-left (eqb x x) (among x l) (eqb-refl x)))
+    and-both (among x m) (every (λ v. among v m) l) (e x (or-left (eqb x x) (among x l) (eqb-refl x)))
     (each-self l m (λ v h. e v (or-right (eqb v x) (among v l) h)))
-  where
-    both : (a b : Bool) → T a → T b → T (a && b)
-    both true b p q = q
-    both false b p q = absurd p
-
-    or-left : (a b : Bool) → T a → T (a || b)
-    or-left true b t = tt
-    or-left false b t = absurd t
-
-    or-right : (a b : Bool) → T b → T (a || b)
-    or-right true b t = tt
-    or-right false b t = t
 
 pub count-mem : {A : Type 0} (P : A → Bool) (l : List A) (x : A) → List·Memᴰ x l → T (P x) → 1 ≤ count P l
 count-mem P [] x m h = absurd (List·Memᴰ·not-nil m)
@@ -164,14 +142,10 @@ module _ (e x : Element) (ge : Good e) (gx : Good x) (m : Meet e x) where
         S .in-mine,
         omega arith,
         count-mem (λ G. sameSet (ofFace (S .mine)) (ofFace G)) (facesOf x) (S .theirs) (S .in-theirs)
-            (both (every (λ v. among v (ofFace (S .theirs))) (ofFace (S .mine))) (every (λ v. among v (ofFace (S .mine))) (ofFace (S .theirs)))
+            (and-both (every (λ v. among v (ofFace (S .theirs))) (ofFace (S .mine))) (every (λ v. among v (ofFace (S .mine))) (ofFace (S .theirs)))
             (each-self (ofFace (S .mine)) (ofFace (S .theirs)) (λ v h. subst T (sym (S .same v)) h))
             (each-self (ofFace (S .theirs)) (ofFace (S .mine)) (λ v h. subst T (S .same v) h))),
       )
-    where
-      both : (a b : Bool) → T a → T b → T (a && b)
-      both true b p q = q
-      both false b p q = absurd p
 
   -- C: where the other has the face too, it owns the reverse
   pub crossed : (t : Tri ℕ) (F : Face ℕ) → List·Memᴰ F (facesOf e) → 1 ≤ times t (cutFace F) → 1 ≤ count (λ G. sameSet (ofFace F) (ofFace G)) (facesOf x)

@@ -13,7 +13,8 @@ use Rattle.laws.specs.Words.{every, among, distinct, lowest}
 use Rattle.solids.specs.Solids.{Solid, tetrahedron, pyramid, prism, hexahedron, Face, three, four, Tet, tet, Element, element, corners, faces, at, onFace, onTet, ofFace, ofTet}
 use Rattle.solids.specs.Rotations.{rotations, relisted}
 use Rattle.solids.specs.Cut.{placeOf, first, inOrder, cut}
-use Rattle.laws.proofs.TestLaws.{and-left, and-right, below, choices, at-choices}
+use Rattle.laws.proofs.TestLaws.{and-left, and-right, below}
+use Rattle.laws.proofs.EveryLaws.{every-map, map-agree}
 use Rattle.solids.proofs.RenamingLaws.{asked, apart, same-places, eqb-on}
 use Rattle.solids.proofs.NumberingLaws.{number, number-inj, inside, at-place, at-number, placeOf-at}
 use Rattle.solids.proofs.ShapeLaws.{far, shape, Proper, turnsOf, first-inside, at-f, lowest-f, cut-shape, allShapes, at-shape}
@@ -23,20 +24,6 @@ use Rattle.solids.proofs.TurnLaws.{half, way, lookFor, matched, apartFa
 use Rattle.solids.proofs.RotationWords.{gen, Word, word, product, productOf, words, words-right}
 use Rattle.solids.proofs.HalfLaws.{allHalves, ways-of, cut-half, at-half}
 use Rattle.solids.proofs.RotationTest.{insideAll, facesIn, rotOk, listOk, turnOk, all-turn}
-
--- what holds of each member
-pub every-at : {A : Type 0} (P : A → Bool) (l : List A) → T (every P l) → (x : A) → List·Memᴰ x l → T (P x)
-every-at P [] h x m = absurd (List·Memᴰ·not-nil m)
-every-at P (y ∷ l) h x m = go (every-at P l (and-right (P y) (every P l) h) x) (List·Memᴰ·cases-cons m)
-  where
-    go : (List·Memᴰ x l → T (P x)) → (x ≡ y) ⊎ List·Memᴰ x l → T (P x)
-    go ih (inl e) = subst (λ z. T (P z)) (sym e) (and-left (P y) (every P l) h)
-    go ih (inr n) = ih n
-
--- members changed in two ways that agree where the test passes
-map-agree : {A B : Type 0} (g k : A → B) (P : A → Bool) → ((x : A) → T (P x) → g x ≡ k x) → (l : List A) → T (every P l) → map g l ≡ map k l
-map-agree g k P e [] h = refl
-map-agree {B} g k P e (x ∷ l) h = ap₂ {C = List B} (λ y ys. y ∷ ys) (e x (and-left (P x) (every P l) h)) (map-agree g k P e l (and-right (P x) (every P l) h))
 
 module _ (g k : ℕ → ℕ) (P : ℕ → Bool) (e : (p : ℕ) → T (P p) → g p ≡ k p) where
   tet-agree : (t : Tet ℕ) → T (every P (ofTet t)) → onTet g t ≡ onTet k t
@@ -294,14 +281,6 @@ gen-long s i =
     let l = and-left (listOk s (gen s i)) (allHalves s (rotOk s (gen s i))) (all-turn s i) in
     eqb→eq (length (gen s i)) (corners s)
     (and-left (eqb (length (gen s i)) (corners s)) (every (inside (corners s)) (gen s i) && (distinct (gen s i) && below (corners s) (λ j. among (suc j) (gen s i)))) l)
-
-every-map : (P : ℕ → Bool) (g : ℕ → ℕ) (Q : ℕ → Bool) → ((p : ℕ) → T (Q p) → T (P (g p))) → (l : List ℕ) → T (every Q l) → T (every P (map g l))
-every-map P g Q e [] h = tt
-every-map P g Q e (x ∷ l) h = both (P (g x)) (every P (map g l)) (e x (and-left (Q x) (every Q l) h)) (every-map P g Q e l (and-right (Q x) (every Q l) h))
-  where
-    both : (a b : Bool) → T a → T b → T (a && b)
-    both true b p q = q
-    both false b p q = absurd p
 
 gen-in : (s : Solid) (i p : ℕ) → T (inside (corners s) p) → T (inside (length (gen s i)) p)
 gen-in s i p k = subst (λ (m : ℕ). T (inside m p)) (sym (gen-long s i)) k

@@ -11,9 +11,9 @@ use borrow.Author.Tests.{eqb-true, eqb-false, eq-eqb, ne-eqb}
 use Rattle.laws.specs.Words.{among, distinct, every, keep, count, gather}
 use Rattle.solids.specs.Solids.{Face, three, four, Tri, tri, Tet, tet, ofTet, onFace, onTri, onTet, ofFace, holds}
 use Rattle.solids.specs.Cut.{turned, turns, halves, cutFace, lowestFirst, onDiagonal, follow, written, ascending, inOrder}
+use Rattle.laws.proofs.TestLaws.{and-left, and-right, not-among-cons, distinct-cons}
 use Rattle.solids.proofs.AscendingLaws.{ascending-through}
 use Rattle.solids.proofs.WrittenLaws.{Apart, FApart, written-even}
-use Rattle.laws.proofs.TestLaws.{and-left, and-right, not-among-cons, distinct-cons}
 
 -- the triangles of faces that are turned by the given numbers
 abbrev pub cutsAt : List (Face ℕ) → List ℕ → List (Tri ℕ)

@@ -13,7 +13,7 @@ use Rattle.laws.specs.Words.{every, among, distinct, lowest}
 use Rattle.solids.specs.Solids.{Solid, tetrahedron, pyramid, prism, hexahedron, Face, three, four, Tet, tet, Element, element, corners, faces, at, onFace, onTet, ofFace, ofTet}
 use Rattle.solids.specs.Rotations.{rotations, relisted}
 use Rattle.solids.specs.Cut.{placeOf, first, inOrder, cut}
-use Rattle.laws.proofs.TestLaws.{and-left, and-right, below, choices, at-choices}
+use Rattle.laws.proofs.TestLaws.{below}
 use Rattle.solids.proofs.RenamingLaws.{asked, apart, same-places, eqb-on}
 use Rattle.solids.proofs.NumberingLaws.{number, number-inj, inside, at-place, at-number, placeOf-at}
 use Rattle.solids.proofs.ShapeLaws.{far, shape, Proper, turnsOf, first-inside, at-f, lowest-f, cut-shape, allShapes, at-shape}

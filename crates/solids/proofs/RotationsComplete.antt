@@ -2,7 +2,7 @@
 -- place by place, left off as soon as a whole face is mapped to none.
 -- Assumes nothing.
 use mathlib.Core.Path.{_≡_, refl, sym, _∙_, ap, ap₂, subst}
-use mathlib.Core.Bool.{Bool, true, false, _&&_, _||_}
+use mathlib.Core.Bool.{Bool, true, false, not, _&&_, _||_}
 use mathlib.Core.List.{List, [], _∷_, _++_, append-nil, append-assoc, List·Memᴰ, Memᴰ·cast}
 use Prim.Native.Nat.{ℕ, zero, suc, _+_, _≤_, _<_}
 use native.Mathlib.Nat.{le-of-suc-le-suc, not-suc-le-zero}
@@ -13,9 +13,9 @@ use Rattle.laws.specs.Words.{every, some, distinct}
 use Rattle.solids.specs.Solids.{Solid, tetrahedron, pyramid, prism, hexahedron, Face, three, four, corners, faces, at, onFace, ofFace}
 use Rattle.solids.specs.Rotations.{sameFace, isReordering, keepsFaces, isRotation, rotations}
 use Rattle.laws.proofs.TestLaws.{and-left, and-right, below, at-below}
+use Rattle.laws.proofs.EveryLaws.{some-at, every-implies}
 use Rattle.solids.proofs.NumberingLaws.{inside}
 use Rattle.solids.proofs.RelistedLaws.{face-agree}
-use Rattle.solids.proofs.MeetLaws.{some-at}
 
 -- a face whose places are all given goes to a face (an `elim`, so that the rest is computed only where they are given)
 abbrev goesOn : Solid → List ℕ → Face ℕ → Bool
@@ -36,6 +36,17 @@ eqList→eq [] (y ∷ ys) h = absurd h
 eqList→eq (x ∷ xs) [] h = absurd h
 eqList→eq (x ∷ xs) (y ∷ ys) h = let p = eqb→eq x y (and-left (eqb x y) (eqList xs ys) h) in let q = eqList→eq xs ys (and-right (eqb x y) (eqList xs ys) h) in cc
 
+-- no two of the lists are alike
+abbrev pub allDiffer : List (List ℕ) → Bool
+allDiffer [] = true
+allDiffer (u ∷ us) = not (some (eqList u) us) && allDiffer us
+
+pub all-differ : (s : Solid) → T (allDiffer (rotations s))
+all-differ tetrahedron = tt
+all-differ pyramid = tt
+all-differ prism = tt
+all-differ hexahedron = tt
+
 abbrev search-all : Solid → ℕ → List ℕ → Bool
 search-all s zero u = elim (keepOn s u) [ true ↦ some (eqList u) (rotations s) | false ↦ true ]
 search-all s (suc m) u = elim (keepOn s u) [ true ↦ below (corners s) (λ i. search-all s m (u ++ (suc i ∷ []))) | false ↦ true ]
@@ -51,16 +62,8 @@ at-append : (u v : List ℕ) (p : ℕ) → T (inside (length u) p) → at (u ++ 
 at-append u v zero h = absurd h
 at-append u v (suc i) h = List·getD-append u v 0 i (ltb→lt i (length u) h)
 
-every-faces : (P Q : Face ℕ → Bool) → ((F : Face ℕ) → T (P F) → T (Q F)) → (l : List (Face ℕ)) → T (every P l) → T (every Q l)
-every-faces P Q e [] h = tt
-every-faces P Q e (x ∷ l) h = both (Q x) (every Q l) (e x (and-left (P x) (every P l) h)) (every-faces P Q e l (and-right (P x) (every P l) h))
-  where
-    both : (a b : Bool) → T a → T b → T (a && b)
-    both true b p q = q
-    both false b p q = absurd p
-
 kept : (s : Solid) (u v : List ℕ) → T (every (λ F. some (sameFace (onFace (at (u ++ v)) F)) (faces s)) (faces s)) → T (keepOn s u)
-kept s u v h = every-faces (λ F. some (sameFace (onFace (at (u ++ v)) F)) (faces s)) (goesOn s u) one (faces s) h
+kept s u v h = every-implies (λ F. some (sameFace (onFace (at (u ++ v)) F)) (faces s)) (goesOn s u) one (faces s) h
   where
     one : (F : Face ℕ) → T (some (sameFace (onFace (at (u ++ v)) F)) (faces s)) → T (goesOn s u F)
     one F t = go (every (inside (length u)) (ofFace F)) refl

@@ -9,6 +9,7 @@ use lib.ListN.{length}
 use Rattle.laws.specs.Words.{every}
 use Rattle.solids.specs.Solids.{Solid, hexahedron, Tet, tet, Element, element, at, opposite, onTet, ofTet}
 use Rattle.solids.specs.Cut.{first, bitsOf, inOrder, cut}
+use Rattle.solids.specs.Surface.{eqTet}
 use Rattle.solids.specs.Rows.{hexRows, rowPlaces, rowTets, rowNumber, cutByRow}
 use Rattle.laws.proofs.TestLaws.{and-left, and-right}
 use Rattle.solids.proofs.RenamingLaws.{bitsAt, apart, same-places}
@@ -16,16 +17,13 @@ use Rattle.solids.proofs.NumberingLaws.{number, number-inj, inside, tet
 use Rattle.solids.proofs.ShapeLaws.{far, shape, Proper, turnsOf, bits-f, cut-shape, allShapes, at-shape}
 
 -- two lists of tetrahedra are one
-abbrev pub eqTet : Tet ℕ → Tet ℕ → Bool
-eqTet (tet a b c d) (tet e f g h) = eqb a e && (eqb b f && (eqb c g && eqb d h))
-
 abbrev pub eqTets : List (Tet ℕ) → List (Tet ℕ) → Bool
 eqTets [] [] = true
 eqTets [] (u ∷ us) = false
 eqTets (t ∷ ts) [] = false
 eqTets (t ∷ ts) (u ∷ us) = eqTet t u && eqTets ts us
 
-eqTet→eq : (t u : Tet ℕ) → T (eqTet t u) → t ≡ u
+pub eqTet→eq : (t u : Tet ℕ) → T (eqTet t u) → t ≡ u
 eqTet→eq (tet a b c d) (tet e f g h) p =
     let ae = eqb→eq a e (and-left (eqb a e) (eqb b f && (eqb c g && eqb d h)) p) in
     let q = and-right (eqb a e) (eqb b f && (eqb c g && eqb d h)) p in

@@ -5,12 +5,13 @@ use mathlib.Core.Bool.{Bool, true, false, cond, not, _&&_, _||_}
 use mathlib.Core.List.{List, [], _∷_, _++_, map}
 use Prim.Native.Nat.{ℕ, zero, suc, _+_, _≤_, _<_}
 use native.Mathlib.Omega.{arith}
-use lib.Dec.{eqb, ltb, T, lit<}
+use lib.Dec.{eqb, ltb, T, lit<, eqb→eq}
 use lib.ListN.{length}
 use Rattle.laws.specs.Words.{among, distinct, every, keep, count, gather, lowest}
 use Rattle.solids.specs.Solids.{Solid, tetrahedron, pyramid, prism, hexahedron, Face, three, four, Tri, tri, Tet, tet, Element, element, corners, faces, at, opposite, onFace, onTri, onTet, ofFace, ofTet, holds, facesOf}
 use Rattle.solids.specs.Cut.{placeOf, turned, turns, lowestFirst, cutFace, onDiagonal, follow, toFirst, five, inOrder, lowestOf, farFaces, fan, first, bitsOf, through, fiveOf, tetsOf, cut}
-use Rattle.laws.proofs.TestLaws.{below, choices, at-choices, and-left, and-right}
+use Rattle.solids.specs.Fit.{proper}
+use Rattle.laws.proofs.TestLaws.{and-left, and-right, below, choices, at-choices}
 use Rattle.solids.proofs.RenamingLaws.{cutsAt, bitsAt, asked, keep-on, cuts-on, bits-on, follows-on, apart}
 use Rattle.solids.proofs.NumberingLaws.{number, number-inj, inside, at-place, at-number, faces-number, tets-number, lowest-place}
 
@@ -35,6 +36,9 @@ shape hexahedron a ks = cond (eqb (count (λ b. b) (bitsAt (opposite a) (far hex
 pub record Proper (s : Solid) (vs : List ℕ) : Type 0 where
   pub many : length vs ≡ corners s
   pub apart-all : T (distinct vs)
+
+pub from-proper : (s : Solid) (vs : List ℕ) → T (proper (element s vs)) → Proper s vs
+from-proper s vs h = record { many = eqb→eq (length vs) (corners s) (and-left (eqb (length vs) (corners s)) (distinct vs) h); apart-all = and-right (eqb (length vs) (corners s)) (distinct vs) h }
 
 -- the turns that the numbers ask of the far faces
 abbrev pub turnsOf : Solid → List ℕ → List ℕ

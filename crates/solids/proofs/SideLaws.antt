@@ -12,7 +12,8 @@ use Rattle.laws.specs.Words.{count, gather, every, among, lowest}
 use Rattle.solids.specs.Solids.{Face, three, four, Tri, tri, Tet, tet, onTri, onTet, onFace, ofTet}
 use Rattle.solids.specs.Cut.{firstLowest, secondLowest, written, upTo, insert, ascending, inOrder}
 use Rattle.solids.specs.Surface.{sides, back, eqTri, sameTri, times, owners, within}
-use Rattle.laws.proofs.TestLaws.{and-left, and-right, T-true, true-T}
+use Rattle.laws.proofs.TestLaws.{or-cases, or-left, or-right, and-left, and-right, T-true, true-T}
+use Rattle.laws.proofs.EveryLaws.{count-append, count-cong}
 use Rattle.solids.proofs.WrittenLaws.{either}
 use Rattle.solids.proofs.RenamingLaws.{eqb-on}
 
@@ -48,19 +49,6 @@ pub same-back : {t u : Tri ℕ} → Same t u → Same (back t) (back u)
 same-back {t} {u} (s0 p) = s0 (ap back p)
 same-back {t = tri a b c} {u} (s1 p) = s2 (ap back p)
 same-back {t = tri a b c} {u} (s2 p) = s1 (ap back p)
-
--- the test and the fact
-or-cases : (a b : Bool) → T (a || b) → T a ⊎ T b
-or-cases true b t = inl tt
-or-cases false b t = inr t
-
-or-left : (a b : Bool) → T a → T (a || b)
-or-left true b t = tt
-or-left false b t = absurd t
-
-or-right : (a b : Bool) → T b → T (a || b)
-or-right true b t = tt
-or-right false b t = t
 
 eqTri→eq : (t u : Tri ℕ) → T (eqTri t u) → u ≡ t
 eqTri→eq (tri a b c) (tri p q r) h =
@@ -111,15 +99,6 @@ same-right t {u} {v} s =
     bool-iff (sameTri t u) (sameTri t v)
     (λ h. same-test t v (same-trans (test-same t u h) s))
     (λ h. same-test t u (same-trans (test-same t v h) (same-sym s)))
-
-module _ {A : Type 0} where
-  pub count-append : (P : A → Bool) (l m : List A) → count P (l ++ m) ≡ count P l + count P m
-  count-append P [] m = omega arith
-  count-append P (x ∷ l) m = rw (count-append P l m) (omega arith)
-
-  pub count-cong : (P Q : A → Bool) → ((x : A) → P x ≡ Q x) → (l : List A) → count P l ≡ count Q l
-  count-cong P Q h [] = refl
-  count-cong P Q h (x ∷ l) = ap₂ {C = ℕ} (λ b n. cond b 1 0 + n) (h x) (count-cong P Q h l)
 
 pub times-same : {t u : Tri ℕ} → Same t u → (l : List (Tri ℕ)) → times t l ≡ times u l
 times-same {t} {u} s l = count-cong (sameTri t) (sameTri u) (same-left s) l

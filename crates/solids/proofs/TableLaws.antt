@@ -1,27 +1,25 @@
 -- The tables of the code are the page's: an entry of the table of faces is a place of a face, an entry of the table of cuts a place of a row,
 -- and outside both there is none. Every place is at most 8.
 -- Assumes nothing.
-use mathlib.Core.Path.{_≡_, refl, sym, ap, _∙_}
-use mathlib.Core.Bool.{Bool, true, false}
+use mathlib.Core.Path.{_≡_, refl, ap}
+use mathlib.Core.Bool.{Bool, _&&_}
 use mathlib.Core.List.{List, [], _∷_, map}
+use mathlib.Core.Logic.{_⊎_, inl, inr}
 use Prim.Native.Nat.{ℕ, zero, suc, _+_, _*_, _≤_, _<_, zero-le}
 use native.Mathlib.Nat.{le-trans}
-use native.Mathlib.Omega.{arith}
 use lib.Dec.{T, eqb, leb, eqb→eq, leb→le}
-use lib.ListN.{length, getD, take, drop, length-map, length-take, List·getD-eq-default, drop-of-length-le}
-use lib.Seq.{getD-take, getD-drop}
-use borrow.Author.Tests.{leb-true, leb-false}
-use Rattle.laws.proofs.TestLaws.{below, at-below}
-use Rattle.laws.proofs.TableLaws.{entries, at-entry}
-use Rattle.solids.specs.Solids.{Place, Solid, tetrahedron, pyramid, prism, hexahedron, Face, three, four, faces, faceCount, faceCorners, facePlace, ofFace}
+use lib.ListN.{length, getD, length-map, List·getD-eq-default}
+use Rattle.laws.specs.Words.{every}
+use Rattle.solids.specs.Solids.{Solid, tetrahedron, pyramid, prism, hexahedron, Face, three, four, faces, faceCount, faceCorners, facePlace, ofFace}
 use Rattle.solids.specs.Rows.{hexRows, rowPlaces, rowPlace}
-use Rattle.solids.specs.Loops.{faceRows, firstFace}
+use Rattle.solids.specs.Loops.{faceRows, firstFace, cutPlaces}
+use Rattle.laws.proofs.TestLaws.{and-left, and-right, below, at-below}
 
 -- ---- the faces
 
 -- one test for each face of a solid and each of four corners
 abbrev faceRight : Solid → ℕ → ℕ → Bool
-faceRight s i k = eqb (facePlace s i k) (getD faceRows ((firstFace s + i) * 4 + k) 0)
+faceRight s i k = eqb (facePlace s i k) (getD (getD faceRows (firstFace s + i) []) k 0)
 
 faces-right : (s : Solid) → T (below (faceCount s) (λ i. below 4 (faceRight s i)))
 unfolding facePlace faceCorners faceRows
@@ -30,9 +28,9 @@ faces-right pyramid = tt
 faces-right prism = tt
 faces-right hexahedron = tt
 
-pub face-entry : (s : Solid) (i k : ℕ) → i < faceCount s → k < 4 → facePlace s i k ≡ getD faceRows ((firstFace s + i) * 4 + k) 0
+pub face-entry : (s : Solid) (i k : ℕ) → i < faceCount s → k < 4 → facePlace s i k ≡ getD (getD faceRows (firstFace s + i) []) k 0
 face-entry s i k h j =
-    eqb→eq (facePlace s i k) (getD faceRows ((firstFace s + i) * 4 + k) 0)
+    eqb→eq (facePlace s i k) (getD (getD faceRows (firstFace s + i) []) k 0)
     (at-below 4 (faceRight s i) (at-below (faceCount s) (λ l. below 4 (faceRight s l)) (faces-right s) i h) k j)
 
 -- the faces of all solids stand in the table
@@ -62,69 +60,75 @@ corner-beyond s i k h = List·getD-eq-default (getD (map ofFace (faces s)) i [])
 
 -- ---- the rows
 
-pub row-entry : (r k : ℕ) → r < 64 → k < 24 → rowPlace r k ≡ getD hexRows (r * 24 + k) 0
-unfolding rowPlace rowPlaces
-row-entry r k h j =
-    getD-take 24 (drop (24 * r) hexRows) k 0 j
-    ∙ getD-drop (24 * r) hexRows k 0
-    ∙ ap (λ (n : ℕ). getD hexRows n 0) (omega arith)
+-- one test for each row and each of its 24 places
+abbrev rowRight : ℕ → ℕ → Bool
+rowRight r k = eqb (rowPlace r k) (getD cutPlaces (r * 24 + k) 0)
 
-rows-length : length hexRows ≡ 1536
+rows-right : T (below 64 (λ r. below 24 (rowRight r)))
+unfolding rowPlace rowPlaces hexRows cutPlaces
+rows-right = tt
+
+pub row-entry : (r k : ℕ) → r < 64 → k < 24 → rowPlace r k ≡ getD cutPlaces (r * 24 + k) 0
+row-entry r k h j =
+    eqb→eq (rowPlace r k) (getD cutPlaces (r * 24 + k) 0)
+    (at-below 24 (rowRight r) (at-below 64 (λ q. below 24 (rowRight q)) rows-right r h) k j)
+
+-- 64 rows of 24 places, none above 8
+abbrev rowFits : List ℕ → Bool
+rowFits l = eqb (length l) 24 && every (λ p. leb p 8) l
+
+rows-fit : T (every rowFits hexRows)
+unfolding hexRows
+rows-fit = tt
+
+rows-length : length hexRows ≡ 64
 unfolding hexRows
 rows-length = refl
 
 pub row-beyond : (r k : ℕ) → 64 ≤ r → rowPlace r k ≡ 0
 unfolding rowPlace rowPlaces
-row-beyond r k h = ap (λ (l : List ℕ). getD (take 24 l) k 0) (drop-of-length-le hexRows {i = 24 * r} (rw rows-length (omega arith)))
+row-beyond r k h = ap (λ (l : List ℕ). getD l k 0) (List·getD-eq-default hexRows [] {n = r} (rw rows-length h))
+
+-- a test that passes at each row passes at the row of any number, or there is none
+at-row : (l : List (List ℕ)) (P : List ℕ → Bool) → T (every P l) → (r : ℕ) → (T (P (getD l r []))) ⊎ (getD l r [] ≡ [])
+at-row [] P h r = inr refl
+at-row (x ∷ l) P h zero = inl (and-left (P x) (every P l) h)
+at-row (x ∷ l) P h (suc r) = at-row l P (and-right (P x) (every P l) h) r
 
 pub entry-beyond : (r k : ℕ) → 24 ≤ k → rowPlace r k ≡ 0
 unfolding rowPlace rowPlaces
-entry-beyond r k h =
-    List·getD-eq-default (take 24 (drop (24 * r) hexRows)) 0
-    (rw (length-take 24 (drop (24 * r) hexRows)) (omega arith))
+entry-beyond r k h = go (at-row hexRows rowFits rows-fit r)
+  where
+    go : (T (rowFits (getD hexRows r []))) ⊎ (getD hexRows r [] ≡ []) → getD (getD hexRows r []) k 0 ≡ 0
+    go (inl t) = List·getD-eq-default (getD hexRows r []) 0 {n = k} (rw (eqb→eq (length (getD hexRows r [])) 24 (and-left (eqb (length (getD hexRows r [])) 24) (every (λ p. leb p 8) (getD hexRows r [])) t)) h)
+    go (inr e) = ap (λ (l : List ℕ). getD l k 0) e
 
 -- ---- every place is at most 8
 
-small : ℕ → ℕ → Bool
-small i x = leb x 8
-
-rows-small : T (entries small 0 hexRows)
-unfolding hexRows small
-rows-small = tt
-
-faces-small : T (entries small 0 faceRows)
-unfolding faceRows small
-faces-small = tt
-
-le-8 : (x : ℕ) → T (leb x 8) → x ≤ 8
-le-8 x = leb→le x 8
-
--- what a table of small entries has at any index, also past its end
-at-any : (l : List ℕ) → T (entries small 0 l) → (n : ℕ) → getD l n 0 ≤ 8
-unfolding small
-at-any l h n = go (leb (suc n) (length l)) refl
-  where
-    go : (b : Bool) → leb (suc n) (length l) ≡ b → getD l n 0 ≤ 8
-    go true e = le-8 (getD l n 0) (at-entry small l h n (leb-true (suc n) (length l) e))
-    go false e = rw (List·getD-eq-default l 0 {n = n} (let k = leb-false (suc n) (length l) e in omega arith)) zero-le
+at-any : (l : List ℕ) → T (every (λ p. leb p 8) l) → (k : ℕ) → getD l k 0 ≤ 8
+at-any [] h k = zero-le
+at-any (x ∷ l) h zero = leb→le x 8 (and-left (leb x 8) (every (λ p. leb p 8) l) h)
+at-any (x ∷ l) h (suc k) = at-any l (and-right (leb x 8) (every (λ p. leb p 8) l) h) k
 
 pub row-place-small : (r k : ℕ) → rowPlace r k ≤ 8
 unfolding rowPlace rowPlaces
-row-place-small r k = go (leb 24 k) refl
+row-place-small r k = go (at-row hexRows rowFits rows-fit r)
   where
-    go : (b : Bool) → leb 24 k ≡ b → getD (take 24 (drop (24 * r) hexRows)) k 0 ≤ 8
-    go true e =
-        rw (List·getD-eq-default (take 24 (drop (24 * r) hexRows)) 0 {n = k}
-        (rw (length-take 24 (drop (24 * r) hexRows)) (let h = leb-true 24 k e in omega arith))) zero-le
-    go false e =
-        rw (getD-take 24 (drop (24 * r) hexRows) k 0 (let h = leb-false 24 k e in omega arith), getD-drop (24 * r) hexRows k 0)
-        (at-any hexRows rows-small (24 * r + k))
+    go : (T (rowFits (getD hexRows r []))) ⊎ (getD hexRows r [] ≡ []) → getD (getD hexRows r []) k 0 ≤ 8
+    go (inl t) = at-any (getD hexRows r []) (and-right (eqb (length (getD hexRows r [])) 24) (every (λ p. leb p 8) (getD hexRows r [])) t) k
+    go (inr e) = rw (ap (λ (l : List ℕ). getD l k 0) e) zero-le
+
+faces-fit : (s : Solid) → T (every (λ F. every (λ p. leb p 8) (ofFace F)) (faces s))
+faces-fit tetrahedron = tt
+faces-fit pyramid = tt
+faces-fit prism = tt
+faces-fit hexahedron = tt
+
+face-at : (fs : List (Face ℕ)) → T (every (λ F. every (λ p. leb p 8) (ofFace F)) fs) → (i k : ℕ) → getD (getD (map ofFace fs) i []) k 0 ≤ 8
+face-at [] h i k = zero-le
+face-at (F ∷ fs) h zero k = at-any (ofFace F) (and-left (every (λ p. leb p 8) (ofFace F)) (every (λ G. every (λ p. leb p 8) (ofFace G)) fs) h) k
+face-at (F ∷ fs) h (suc i) k = face-at fs (and-right (every (λ p. leb p 8) (ofFace F)) (every (λ G. every (λ p. leb p 8) (ofFace G)) fs) h) i k
 
 pub face-place-small : (s : Solid) (i k : ℕ) → facePlace s i k ≤ 8
-face-place-small s i k = go (leb (faceCount s) i) refl (leb 4 k) refl
-  where
-    go : (b : Bool) → leb (faceCount s) i ≡ b → (c : Bool) → leb 4 k ≡ c → facePlace s i k ≤ 8
-    go true e c f = rw (face-beyond s i k (leb-true (faceCount s) i e)) zero-le
-    go false e true f = rw (corner-beyond s i k (leb-true 4 k f)) zero-le
-    go false e false f =
-        rw (face-entry s i k (leb-false (faceCount s) i e) (leb-false 4 k f)) (at-any faceRows faces-small ((firstFace s + i) * 4 + k))
+unfolding facePlace faceCorners
+face-place-small s i k = face-at (faces s) (faces-fit s) i k

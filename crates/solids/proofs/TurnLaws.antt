@@ -12,7 +12,7 @@ use Rattle.laws.specs.Words.{every, some, distinct, lowest}
 use Rattle.solids.specs.Solids.{Face, three, four, Tet, tet, onFace, ofFace}
 use Rattle.solids.specs.Rotations.{eqFace}
 use Rattle.solids.specs.Cut.{turned, turns}
-use Rattle.laws.proofs.TestLaws.{and-left, and-right}
+use Rattle.laws.proofs.TestLaws.{or-cases, and-left, and-right}
 use Rattle.solids.proofs.WrittenLaws.{Apart, Least, first, second, third, fourth, least}
 use Rattle.solids.proofs.RenamingLaws.{asked, apart-on}
 
@@ -93,10 +93,6 @@ eqFace→eq (four a b c d) (four p q r s) h =
     let z = eqb→eq c r (and-left (eqb c r) (eqb d s) l) in
     let w = eqb→eq d s (and-right (eqb c r) (eqb d s) l) in
     cc
-
-pub or-cases : (a b : Bool) → T (a || b) → T a ⊎ T b
-or-cases true b t = inl tt
-or-cases false b t = inr t
 
 abbrev pub ofFour : Face ℕ → Bool
 ofFour (three p q r) = true

@@ -107,6 +107,13 @@ tetsOf (element pyramid vs) = fan (element pyramid vs)
 tetsOf (element prism vs) = fan (element prism vs)
 tetsOf (element hexahedron vs) = cond (eqb (through vs) 0) (fiveOf vs) (fan (element hexahedron vs))
 
+-- a tetrahedron stays one, a pyramid gives two, a prism three, a hexahedron six or, where n is 0, five
+abbrev pub howMany : Element → ℕ
+howMany (element tetrahedron vs) = 1
+howMany (element pyramid vs) = 2
+howMany (element prism vs) = 3
+howMany (element hexahedron vs) = cond (eqb (through vs) 0) 5 6
+
 -- ---- how a tetrahedron is written, and the order
 
 -- the lowest number first, by an exchange of two pairs, which is even

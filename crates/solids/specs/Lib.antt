@@ -2,6 +2,7 @@
 pub mod Solids
 pub mod Rotations
 pub mod Cut
+pub mod Reference
 pub mod Rows
 pub mod Samples
 pub mod Fit

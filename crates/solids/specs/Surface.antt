@@ -4,8 +4,8 @@ use mathlib.Core.Path.{_≡_}
 use mathlib.Core.List.{List, [], _∷_, List·Memᴰ}
 use Prim.Native.Nat.{ℕ, _-_, _≤_}
 use lib.Dec.{eqb, T}
-use Rattle.laws.specs.Words.{count, gather, every, among}
-use Rattle.solids.specs.Solids.{Vertex, Face, Tri, tri, Tet, tet, Element, ofTri, ofFace, facesOf}
+use Rattle.laws.specs.Words.{count, gather, every, among, distinct}
+use Rattle.solids.specs.Solids.{Vertex, Face, Tri, tri, Tet, tet, Element, ofTri, ofTet, ofFace, cornersOf, facesOf}
 use Rattle.solids.specs.Cut.{cutFace, cut, cutMesh}
 use Rattle.solids.specs.Fit.{outerFaces}
 
@@ -40,6 +40,16 @@ skin e = gather cutFace (facesOf e)
 -- the corners of t are corners of the face
 abbrev pub within : Tri ℕ → Face ℕ → Bool
 within t F = every (λ v. among v (ofFace F)) (ofTri t)
+
+-- the same corners in the same order
+abbrev pub eqTet : Tet ℕ → Tet ℕ → Bool
+eqTet (tet a b c d) (tet p q r s) = eqb a p && (eqb b q && (eqb c r && eqb d s))
+
+-- What the tetrahedra of a cut are: each has four different vertices, all of them the element's, and no tetrahedron occurs twice.
+pub record Plain (e : Element) : Type 0 where
+  pub different : T (every (λ t. distinct (ofTet t)) (cut e))
+  pub own : T (every (λ t. every (λ v. among v (cornersOf e)) (ofTet t)) (cut e))
+  pub once-each : (t : Tet Vertex) → count (eqTet t) (cut e) ≤ 1
 
 -- What the cut of one element does: each side is owned once; the sides whose reverse is not owned are the triangles of the cut faces,
 -- facing as before; and a side whose corners lie in one face is a triangle of that cut face.

@@ -66,8 +66,7 @@ pub fn face_place(solid: Solid, face: usize, corner: usize) -> Place
     if 4 <= corner {
         return Place(0);
     }
-    let row = first_face(solid) + face;
-    Place(tables::face_entry(row * 4 + corner))
+    Place(tables::face_entry(first_face(solid) + face, corner))
 }
 
 // The place `at` of a row of the hexahedron's cuts, both from 0; none where there is no such place.

@@ -10,7 +10,6 @@ use Rattle.mesh.proofs.blocks.block_of.Tie as tie
 use Rattle.mesh.proofs.blocks.block_of.Reads as reads
 use Rattle.mesh.proofs.blocks.block_of.Lts as lts
 use Rattle.mesh.proofs.blocks.fan_block.Reads as fan-block-reads
-use Rattle.mesh.proofs.blocks.kind_of.Reads as kind-of-reads
 use Rattle.mesh.proofs.blocks.row_block.Reads as row-block-reads
 
 -- src/blocks.rt:484:8

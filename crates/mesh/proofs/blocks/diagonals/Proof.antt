@@ -53,10 +53,10 @@ sub-i : tie.Need-sub-i Inv-loop μ-loop
 sub-i c = omega arith
 
 face-of-requires : tie.Need-face-of-requires Inv-loop μ-loop
-face-of-requires c κs = c .before .before .before .pre .0
+face-of-requires c κs = search needs
 
 with-bit-requires : tie.Need-with-bit-requires Inv-loop μ-loop
-with-bit-requires c κs = few (c .before .before .loop .inv) (c .before .before .before .before .pre .1)
+with-bit-requires c κs = few (c .before .before .loop .inv) (c .before .before .before .before .pre)
 
 loop-less : tie.Need-loop-less Inv-loop μ-loop
 loop-less c = omega arith

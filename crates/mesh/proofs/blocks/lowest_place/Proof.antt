@@ -9,7 +9,7 @@ use borrow.Author.Needs.{needs}
 use Rattle.solids.specs.Solids.{at}
 use Rattle.records.specs.Record.{kindOf, usedOf}
 use Rattle.records.proofs.RecordLaws.{kind-small, used-length}
-use Rattle.mesh.proofs.CornerLaws.{kind-least}
+use Rattle.mesh.proofs.RecordCutLaws.{kind-least}
 use Rattle.mesh.proofs.LowestLaws.{Found, found-last, found-lower, found-higher, found-first}
 use Rattle.mesh.proofs.blocks.lowest_place.Statement.{statement}
 use Rattle.mesh.proofs.blocks.lowest_place.Tie as tie
@@ -26,8 +26,8 @@ kind-of-requires c κs = search needs
 cast-last : tie.Need-cast-last Inv-loop μ-loop
 cast-last c = omega (arith, c .kind-of .ensures, kind-small _ (c .before .before .pre .kind))
 
-corner-requires : tie.Need-corner-requires Inv-loop μ-loop
-corner-requires c κs = search needs
+vertex-at-requires : tie.Need-vertex-at-requires Inv-loop μ-loop
+vertex-at-requires c κs = search needs
 
 sub-i : tie.Need-sub-i Inv-loop μ-loop
 sub-i c = omega (arith, c .before .kind-of .ensures, kind-least _ (c .before .before .before .pre .kind))
@@ -37,10 +37,10 @@ loop-holds c =
     let r = now (c .before .before .before .args .numbers) in
     let w = c .before .before .before .pre in
     found-last (usedOf r) (c .before .kind-of .result) (used-length r w ∙ sym (c .before .kind-of .ensures))
-    (omega (arith, c .before .kind-of .ensures, kind-least (kindOf r) (w .kind))) (c .corner .ensures)
+    (omega (arith, c .before .kind-of .ensures, kind-least (kindOf r) (w .kind))) (c .vertex-at .ensures)
 
-corner-requires-2 : tie.Need-corner-requires-2 Inv-loop μ-loop
-corner-requires-2 c κs = search needs
+vertex-at-requires-2 : tie.Need-vertex-at-requires-2 Inv-loop μ-loop
+vertex-at-requires-2 c κs = search needs
 
 sub-i-2 : tie.Need-sub-i-2 Inv-loop μ-loop
 sub-i-2 c = omega arith
@@ -54,7 +54,7 @@ loop-again c =
     let i = c .before .before .before .loop .i in
     let f = c .before .before .before .loop .inv in
     let h = c .before .before .loop-test .taken in
-    let e = c .before .corner2 .ensures in
+    let e = c .before .vertex-at2 .ensures in
     ⊎-elim
     (λ w. rw (w .1, w .2) (found-lower vs i f h e (w .0 .taken)))
     (λ w. rw (w .1, w .2) (found-higher vs i f h e (w .0 .left)))
@@ -73,10 +73,10 @@ lowest-place-spec =
     μ-loop
     kind-of-requires
     cast-last
-    corner-requires
+    vertex-at-requires
     sub-i
     loop-holds
-    corner-requires-2
+    vertex-at-requires-2
     sub-i-2
     loop-less
     loop-again

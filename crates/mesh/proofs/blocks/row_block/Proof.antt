@@ -67,7 +67,7 @@ sub-k : tie.Need-sub-k Inv-loop μ-loop
 sub-k c = omega arith
 
 with-row-tet-requires : tie.Need-with-row-tet-requires Inv-loop μ-loop
-with-row-tet-requires c κs = (c .before .before .before .before .before .pre .0, (omega (arith, c .before .loop .inv .room), omega (arith, c .before .loop .inv .room)))
+with-row-tet-requires c κs = (omega (arith, c .before .loop .inv .room), omega (arith, c .before .loop .inv .room))
 
 loop-less : tie.Need-loop-less Inv-loop μ-loop
 loop-less c = omega arith

@@ -18,7 +18,7 @@ use Rattle.mesh.proofs.blocks.row_of.Statement.{statement}
 use Rattle.mesh.proofs.blocks.row_of.Tie as tie
 use Rattle.mesh.proofs.blocks.row_of.Reads as reads
 use Rattle.mesh.proofs.blocks.row_of.Lts as lts
-use Rattle.mesh.proofs.blocks.corner.Reads as corner-reads
+use Rattle.mesh.proofs.blocks.vertex_at.Reads as vertex-at-reads
 use Rattle.mesh.proofs.blocks.diagonals.Reads as diagonals-reads
 use Rattle.mesh.proofs.blocks.lowest_place.Reads as lowest-place-reads
 use Rattle.mesh.proofs.blocks.opposite_place.Reads as opposite-place-reads
@@ -39,22 +39,22 @@ lowest-place-requires : tie.Need-lowest-place-requires
 lowest-place-requires c κs = search needs
 
 -- src/blocks.rt:376:9
-corner-requires : tie.Need-corner-requires
-corner-requires c κs = search needs
+vertex-at-requires : tie.Need-vertex-at-requires
+vertex-at-requires c κs = search needs
 
 -- src/blocks.rt:377:32
 opposite-place-requires : tie.Need-opposite-place-requires
 opposite-place-requires c κs = omega (arith, c .before .lowest-place .ensures, first-place (now (c .before .before .before .args .numbers)) (c .before .before .before .pre .0))
 
 -- src/blocks.rt:377:9
-corner-requires-2 : tie.Need-corner-requires-2
-corner-requires-2 c κs = search needs
+vertex-at-requires-2 : tie.Need-vertex-at-requires-2
+vertex-at-requires-2 c κs = search needs
 
 -- src/blocks.rt:378:9
 diagonals-requires : tie.Need-diagonals-requires
 diagonals-requires c κs =
     let p = c .before .before .before .before .before .pre in
-    (p .0, few (now (c .before .before .before .before .before .args .numbers)) (p .0) (p .1) (c .before .before .before .lowest-place .ensures) (c .before .before .corner .ensures) (c .before .opposite-place .ensures) (c .corner2 .ensures))
+    few (now (c .before .before .before .before .before .args .numbers)) (p .0) (p .1) (c .before .before .before .lowest-place .ensures) (c .before .before .vertex-at .ensures) (c .before .opposite-place .ensures) (c .vertex-at2 .ensures)
 
 -- src/blocks.rt:379:10
 cast-result : tie.Need-cast-result
@@ -72,23 +72,23 @@ mul-result c = search needs
 add-result : tie.Need-add-result
 add-result c =
     let p = c .before .before .before .before .before .before .before .pre in
-    let m = few (now (c .before .before .before .before .before .before .before .args .numbers)) (p .0) (p .1) (c .before .before .before .before .before .lowest-place .ensures) (c .before .before .before .before .corner .ensures) (c .before .before .before .opposite-place .ensures) (c .before .before .corner2 .ensures) in
+    let m = few (now (c .before .before .before .before .before .before .before .args .numbers)) (p .0) (p .1) (c .before .before .before .before .before .lowest-place .ensures) (c .before .before .before .before .vertex-at .ensures) (c .before .before .before .opposite-place .ensures) (c .before .before .vertex-at2 .ensures) in
     omega (arith, c .before .diagonals .ensures, c .before .before .before .before .before .lowest-place .ensures, first-place (now (c .before .before .before .before .before .before .before .args .numbers)) (p .0))
 
 -- src/blocks.rt:370:1
 returns : tie.Need-returns
 returns c =
     let p = c .before .before .before .before .before .before .before .pre in
-    row (now (c .before .before .before .before .before .before .before .args .numbers)) (p .0) (p .1) (c .before .before .before .before .before .lowest-place .ensures) (c .before .before .before .before .corner .ensures) (c .before .before .before .opposite-place .ensures) (c .before .before .corner2 .ensures) (c .before .diagonals .ensures)
+    row (now (c .before .before .before .before .before .before .before .args .numbers)) (p .0) (p .1) (c .before .before .before .before .before .lowest-place .ensures) (c .before .before .before .before .vertex-at .ensures) (c .before .before .before .opposite-place .ensures) (c .before .before .vertex-at2 .ensures) (c .before .diagonals .ensures)
 
 pub row-of-spec : {M : Type 1} → statement M
 row-of-spec =
     tie.close
     (tie.spec
     lowest-place-requires
-    corner-requires
+    vertex-at-requires
     opposite-place-requires
-    corner-requires-2
+    vertex-at-requires-2
     diagonals-requires
     cast-result
     sub-result

@@ -3,6 +3,7 @@
 use borrow.Author.Needs.{needs}
 use mathlib.Core.Path.{refl}
 use Rattle.solids.specs.Rows.{hexRows}
+use Rattle.solids.specs.Loops.{cutPlaces}
 use Rattle.solids.proofs.tables.cut_entry.Statement.{statement}
 use Rattle.solids.proofs.tables.cut_entry.Tie as tie
 
@@ -10,7 +11,7 @@ array-read-result : tie.Need-array-read-result
 array-read-result c = search needs
 
 returns : tie.Need-returns
-unfolding hexRows
+unfolding cutPlaces hexRows
 returns c = refl
 
 pub cut-entry-spec : {M : Type 1} → statement M

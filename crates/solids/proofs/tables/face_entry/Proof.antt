@@ -6,12 +6,18 @@ use Rattle.solids.specs.Loops.{faceRows}
 use Rattle.solids.proofs.tables.face_entry.Statement.{statement}
 use Rattle.solids.proofs.tables.face_entry.Tie as tie
 
-array-read-result : tie.Need-array-read-result
-array-read-result c = search needs
+mul-result : tie.Need-mul-result
+mul-result c = search needs
+
+index-1-result : tie.Need-index-1-result
+index-1-result c = search needs
+
+index-2-result : tie.Need-index-2-result
+index-2-result c = search needs
 
 returns : tie.Need-returns
 unfolding faceRows
 returns c = refl
 
 pub face-entry-spec : {M : Type 1} → statement M
-face-entry-spec = tie.close (tie.spec array-read-result returns)
+face-entry-spec = tie.close (tie.spec mul-result index-1-result index-2-result returns)
