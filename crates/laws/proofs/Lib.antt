@@ -7,3 +7,4 @@ pub mod SearchLaws
 pub mod SizeLaws
 pub mod IntegerLaws
 pub mod WordLaws
+pub mod ListLaws

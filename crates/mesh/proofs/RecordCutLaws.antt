@@ -1,15 +1,14 @@
 -- The cut of a whole record's element: by its row if it is a hexahedron, by the fan if it is not; at most six tetrahedra.
 -- Assumes nothing.
-use mathlib.Core.Path.{_≡_, refl, sym, ap, _∙_, subst}
+use mathlib.Core.Path.{_≡_, sym, ap, _∙_, subst}
 use mathlib.Core.List.{List}
 use Prim.Native.Nat.{ℕ, zero, suc, _-_, _≤_, _<_}
 use native.Mathlib.Omega.{arith}
 use lib.Dec.{T, ltb→lt}
 use lib.ListN.{length}
 use Rattle.laws.specs.Words.{lowest}
-use Rattle.solids.specs.declared.Solid.{Solid}
 use Rattle.solids.specs.declared.Solid.the-variants.{Hexahedron}
-use Rattle.solids.specs.Solids.{Tet, element, corners, at, opposite, facesOf}
+use Rattle.solids.specs.Solids.{element, corners, at, opposite, facesOf}
 use Rattle.solids.specs.Cut.{first, bitsOf, fan, tetsOf, inOrder, cut}
 use Rattle.solids.specs.Rows.{binary, rowOf, cutByRow}
 use Rattle.solids.proofs.NumberingLaws.{inside, lowest-place}

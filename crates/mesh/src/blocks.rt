@@ -12,17 +12,12 @@ ghost use Rattle.solids.specs.declared.Solid.the-variants.{Hexahedron};
 ghost use Rattle.solids.specs.Solids.{four, element, ofTet, onTet, at, opposite, holds, facesOf};
 ghost use Rattle.solids.specs.Cut.{lowestFirst, halves, follow, first, onDiagonal, fan, secondLowest, written, upTo, insert, inOrder, cut};
 ghost use Rattle.solids.specs.Rows.{rowPlace, rowOf, cutByRow};
-ghost use Rattle.records.specs.Record.{kindOf, usedOf, solidOf, elementOf};
+ghost use Rattle.records.specs.Record.{kindOf, usedOf, elementOf};
 ghost use Rattle.records.specs.Loops.{Whole};
 ghost use Rattle.mesh.specs.BlockLoops.{tetOf, faceOf, Grown, BlockIs, faceIn, faceTets, choice, withBit, rowTet, rowTetsAt};
 
 // A tetrahedron in vertex numbers.
-pub struct Tet {
-    pub a: Vertex,
-    pub b: Vertex,
-    pub c: Vertex,
-    pub d: Vertex,
-}
+pub struct Tet(pub Vertex, pub Vertex, pub Vertex, pub Vertex);
 
 // A face in vertex numbers.
 pub enum Face {
@@ -67,80 +62,55 @@ fn lowest_of_four(a: Vertex, b: Vertex, c: Vertex, d: Vertex) -> Vertex
 fn second_lowest(t: Tet) -> Tet
     ensures { λ r. ⌜ tetOf r ≡ secondLowest (tetOf t) ⌝ }
 {
-    let a = t.a;
-    let b = t.b;
-    let c = t.c;
-    let d = t.d;
+    let a = t.0;
+    let b = t.1;
+    let c = t.2;
+    let d = t.3;
     let m = lowest_of_three(b, c, d);
     if b.0 == m.0 {
         return t;
     }
     if c.0 == m.0 {
-        return Tet {
-            a: a,
-            b: c,
-            c: d,
-            d: b,
-        };
+        return Tet(a, c, d, b);
     }
-    Tet {
-        a: a,
-        b: d,
-        c: b,
-        d: c,
-    }
+    Tet(a, d, b, c)
 }
 
 // The lowest number first, by an exchange of two pairs, and then the lowest of the other three.
 fn written_form(t: Tet) -> Tet
     ensures { λ r. ⌜ tetOf r ≡ written (tetOf t) ⌝ }
 {
-    let a = t.a;
-    let b = t.b;
-    let c = t.c;
-    let d = t.d;
+    let a = t.0;
+    let b = t.1;
+    let c = t.2;
+    let d = t.3;
     let m = lowest_of_four(a, b, c, d);
     if a.0 == m.0 {
         return second_lowest(t);
     }
     if b.0 == m.0 {
-        return second_lowest(Tet {
-            a: b,
-            b: a,
-            c: d,
-            d: c,
-        });
+        return second_lowest(Tet(b, a, d, c));
     }
     if c.0 == m.0 {
-        return second_lowest(Tet {
-            a: c,
-            b: d,
-            c: a,
-            d: b,
-        });
+        return second_lowest(Tet(c, d, a, b));
     }
-    second_lowest(Tet {
-        a: d,
-        b: c,
-        c: b,
-        d: a,
-    })
+    second_lowest(Tet(d, c, b, a))
 }
 
 // Not above, compared number by number.
 fn up_to(t: Tet, u: Tet) -> bool
     ensures { λ r. ⌜ r ≡ upTo (ofTet (tetOf t)) (ofTet (tetOf u)) ⌝ }
 {
-    if t.a.0 != u.a.0 {
-        return t.a.0 < u.a.0;
+    if t.0.0 != u.0.0 {
+        return t.0.0 < u.0.0;
     }
-    if t.b.0 != u.b.0 {
-        return t.b.0 < u.b.0;
+    if t.1.0 != u.1.0 {
+        return t.1.0 < u.1.0;
     }
-    if t.c.0 != u.c.0 {
-        return t.c.0 < u.c.0;
+    if t.2.0 != u.2.0 {
+        return t.2.0 < u.2.0;
     }
-    t.d.0 <= u.d.0
+    t.3.0 <= u.3.0
 }
 
 // Whether the tetrahedron in hand goes before u: one that made room for another always does.
@@ -193,12 +163,7 @@ fn added(block: Block, t: Tet) -> Block
 fn no_tets() -> Block
     ensures { λ r. ⌜ BlockIs r [] ⌝ }
 {
-    let none = Tet {
-        a: Vertex(0),
-        b: Vertex(0),
-        c: Vertex(0),
-        d: Vertex(0),
-    };
+    let none = Tet(Vertex(0), Vertex(0), Vertex(0), Vertex(0));
     Block {
         tets: [none; 6],
         count: 0,
@@ -383,12 +348,12 @@ fn row_tet(numbers: &[u16], row: usize, k: usize) -> Tet
     requires { ⌜ k < 6 ⌝ }
     ensures { λ t. ⌜ tetOf t ≡ onTet (at (usedOf (now (numbers .entry)))) (rowTet row k) ⌝ }
 {
-    Tet {
-        a: row_vertex(numbers, row, 4 * k),
-        b: row_vertex(numbers, row, 4 * k + 1),
-        c: row_vertex(numbers, row, 4 * k + 2),
-        d: row_vertex(numbers, row, 4 * k + 3),
-    }
+    Tet(
+        row_vertex(numbers, row, 4 * k),
+        row_vertex(numbers, row, 4 * k + 1),
+        row_vertex(numbers, row, 4 * k + 2),
+        row_vertex(numbers, row, 4 * k + 3),
+    )
 }
 
 // A block with the tetrahedron k of a row of cuts, unless that is four zeros.
@@ -427,34 +392,10 @@ fn with_triangles(block: Block, v: Vertex, face: Face) -> Block
     ensures { λ r. ⌜ Grown block (map (follow (v .0)) (halves (faceOf face))) r ⌝ }
 {
     match face {
-        Face::Three(p, q, r) => added(
-            block,
-            Tet {
-                a: v,
-                b: p,
-                c: q,
-                d: r,
-            },
-        ),
+        Face::Three(p, q, r) => added(block, Tet(v, p, q, r)),
         Face::Four(p, q, r, s) => {
-            let later = added(
-                block,
-                Tet {
-                    a: v,
-                    b: p,
-                    c: r,
-                    d: s,
-                },
-            );
-            added(
-                later,
-                Tet {
-                    a: v,
-                    b: p,
-                    c: q,
-                    d: r,
-                },
-            )
+            let later = added(block, Tet(v, p, r, s));
+            added(later, Tet(v, p, q, r))
         }
     }
 }

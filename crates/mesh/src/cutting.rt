@@ -20,10 +20,10 @@ fn put_tet(out: &mut [u16], at: usize, t: Tet)
     requires { ⌜ at + tetWidth ≤ length (now out) ⌝ }
     ensures { λ _. ⌜ now (out .exit) ≡ placed (now (out .entry)) at (flat (tetOf t ∷ [])) ⌝ }
 {
-    out[at] = t.a.0;
-    out[at + 1] = t.b.0;
-    out[at + 2] = t.c.0;
-    out[at + 3] = t.d.0;
+    out[at] = t.0.0;
+    out[at + 1] = t.1.0;
+    out[at + 2] = t.2.0;
+    out[at + 3] = t.3.0;
 }
 
 // The first n of six tetrahedra, from an index on.

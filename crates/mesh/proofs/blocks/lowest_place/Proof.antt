@@ -1,12 +1,11 @@
 -- The loop goes from the last corner to the first; it keeps the lowest number so far and its place.
 -- Assumes nothing.
-use mathlib.Core.Path.{_≡_, refl, sym, ap, _∙_, subst}
+use mathlib.Core.Path.{_≡_, sym, _∙_, subst}
 use mathlib.Core.Logic.{⊎-elim}
-use Prim.Native.Nat.{ℕ, _-_, _≤_, _<_}
+use Prim.Native.Nat.{ℕ, _-_}
 use native.Mathlib.Omega.{arith}
 use denote.Ref.{now}
 use borrow.Author.Needs.{needs}
-use Rattle.solids.specs.Solids.{at}
 use Rattle.records.specs.Record.{kindOf, usedOf}
 use Rattle.records.proofs.RecordLaws.{kind-small, used-length}
 use Rattle.mesh.proofs.RecordCutLaws.{kind-least}

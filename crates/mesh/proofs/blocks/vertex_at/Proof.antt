@@ -2,7 +2,7 @@
 -- Assumes nothing.
 use mathlib.Core.Path.{_≡_, sym, _∙_}
 use mathlib.Core.List.{List}
-use Prim.Native.Nat.{ℕ, zero, suc, _≤_, _<_}
+use Prim.Native.Nat.{ℕ, zero, suc, _<_}
 use native.Mathlib.Nat.{not-suc-le-zero}
 use native.Mathlib.Omega.{arith}
 use denote.Ref.{now}
@@ -13,33 +13,24 @@ use Rattle.records.proofs.RecordLaws.{corner-used}
 use borrow.Author.Needs.{needs}
 use Rattle.mesh.proofs.blocks.vertex_at.Statement.{statement}
 use Rattle.mesh.proofs.blocks.vertex_at.Tie as tie
-use Rattle.mesh.proofs.blocks.vertex_at.Reads as reads
-use Rattle.mesh.proofs.blocks.vertex_at.Lts as lts
-use Rattle.records.proofs.corner.Reads as corner-reads
-use Rattle.records.proofs.kind_of.Reads as kind-of-reads
 
 beyond : (r : List ℕ) (p : ℕ) → kindOf r < p → 0 ≡ at (usedOf r) p
 unfolding usedOf
 beyond r zero h = absurd (not-suc-le-zero h)
 beyond r (suc i) h = sym (List·getD-eq-default (usedOf r) 0 (let e = length-take (kindOf r) (numbersOf r) in omega arith))
 
--- src/blocks.rt:212:9
 kind-of-requires : tie.Need-kind-of-requires
 kind-of-requires c κs = search needs
 
--- src/blocks.rt:213:16
 cast-if1 : tie.Need-cast-if1
 cast-if1 c = search needs
 
--- src/blocks.rt:214:9
 returns : tie.Need-returns
 returns c = beyond (now (c .before .before .before .before .args .numbers)) (c .before .before .before .before .args .place .0) (omega (arith, c .before .before .kind-of .ensures, c .if1 .taken))
 
--- src/blocks.rt:216:5
 corner-requires : tie.Need-corner-requires
 corner-requires c κs = search needs
 
--- src/blocks.rt:209:1
 returns-2 : tie.Need-returns-2
 returns-2 c = c .corner .ensures ∙ corner-used (now (c .before .before .before .before .before .args .numbers)) (c .before .before .before .before .before .args .place .0) (omega (arith, c .before .before .before .kind-of .ensures, c .before .if1 .left))
 
