@@ -20,10 +20,12 @@ add-t7 c = search needs
 
 returns : tie.Need-returns
 unfolding tetsIn
-returns c = record {
-  many = refl;
-  same = c .insert-into .ensures ∙ ap (λ t. insert t (map tetOf (take (c .before .before .before .args .block .count) (c .before .before .before .args .block .tets)))) (c .before .written-form .ensures);
-}
+returns c =
+    let b = c .before .before .before .args .block in
+    record {
+      many = refl;
+      same = c .insert-into .ensures ∙ ap (λ t. insert t (map tetOf (take (b .count) (b .tets)))) (c .before .written-form .ensures);
+    }
 
 pub added-spec : {M : Type 1} → statement M
 added-spec = tie.close (tie.spec written-form-requires insert-into-requires add-t7 returns)

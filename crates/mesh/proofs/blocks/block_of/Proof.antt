@@ -15,13 +15,21 @@ row-block-requires : tie.Need-row-block-requires
 row-block-requires c κs = search needs
 
 returns : tie.Need-returns
-returns c = subst (BlockIs (c .row-block .result)) (cut-by-row (now (c .before .before .before .before .args .numbers)) (c .before .before .before .before .pre) (sym (c .before .before .kind-of .ensures) ∙ c .before .if1 .taken)) (c .row-block .ensures)
+returns c =
+    let r = now (c .before .before .before .before .args .numbers) in
+    let e = sym (c .before .before .kind-of .ensures) ∙ c .before .if1 .taken in
+    subst (BlockIs (c .row-block .result)) (cut-by-row r (c .before .before .before .before .pre) e) (c .row-block .ensures)
 
 fan-block-requires : tie.Need-fan-block-requires
-fan-block-requires c κs = (c .before .before .before .pre, fan-few (now (c .before .before .before .args .numbers)) (c .before .before .before .pre) (λ e. c .if1 .left (c .before .kind-of .ensures ∙ e)))
+fan-block-requires c κs =
+    let w = c .before .before .before .pre in
+    (w, fan-few (now (c .before .before .before .args .numbers)) w (λ e. c .if1 .left (c .before .kind-of .ensures ∙ e)))
 
 returns-2 : tie.Need-returns-2
-returns-2 c = subst (BlockIs (c .fan-block .result)) (cut-by-fan (now (c .before .before .before .before .args .numbers)) (c .before .before .before .before .pre) (λ e. c .before .if1 .left (c .before .before .kind-of .ensures ∙ e))) (c .fan-block .ensures)
+returns-2 c =
+    let r = now (c .before .before .before .before .args .numbers) in
+    let kind = c .before .before .kind-of .ensures in
+    subst (BlockIs (c .fan-block .result)) (cut-by-fan r (c .before .before .before .before .pre) (λ e. c .before .if1 .left (kind ∙ e))) (c .fan-block .ensures)
 
 pub block-of-spec : {M : Type 1} → statement M
 block-of-spec =

@@ -32,18 +32,26 @@ face-place-requires-4 c κs = search needs
 
 returns : tie.Need-returns
 returns c =
-    let vs = usedOf (now (c .before .before .before .before .before .before .before .before .before .before .args .numbers)) in
-    read-three (c .before .before .before .before .before .before .before .before .before .before .args .solid) vs (c .before .before .before .before .before .before .before .before .before .before .args .i) (c .before .before .before .before .before .before .before .vertex-at .ensures ∙ ap (at vs) (c .before .before .before .before .before .before .before .before .face-place .ensures)) (c .before .before .before .before .before .vertex-at2 .ensures ∙ ap (at vs) (c .before .before .before .before .before .before .face-place2 .ensures))
-    (c .before .before .before .vertex-at3 .ensures ∙ ap (at vs) (c .before .before .before .before .face-place3 .ensures)) (c .before .before .face-place4 .ensures) (c .if1 .taken)
+    let a = c .before .before .before .before .before .before .before .before .before .before .args in
+    let vs = usedOf (now (a .numbers)) in
+    let p = c .before .before .before .before .before .before .before .vertex-at .ensures ∙ ap (at vs) (c .before .before .before .before .before .before .before .before .face-place .ensures) in
+    let q = c .before .before .before .before .before .vertex-at2 .ensures ∙ ap (at vs) (c .before .before .before .before .before .before .face-place2 .ensures) in
+    let r = c .before .before .before .vertex-at3 .ensures ∙ ap (at vs) (c .before .before .before .before .face-place3 .ensures) in
+    read-three (a .solid) vs (a .i) p q r (c .before .before .face-place4 .ensures) (c .if1 .taken)
 
 vertex-at-requires-4 : tie.Need-vertex-at-requires-4
 vertex-at-requires-4 c κs = search needs
 
 returns-2 : tie.Need-returns-2
 returns-2 c =
-    let vs = usedOf (now (c .before .before .before .before .before .before .before .before .before .before .before .args .numbers)) in
-    read-four (c .before .before .before .before .before .before .before .before .before .before .before .args .solid) vs (c .before .before .before .before .before .before .before .before .before .before .before .args .i) (c .before .before .before .before .before .before .before .before .vertex-at .ensures ∙ ap (at vs) (c .before .before .before .before .before .before .before .before .before .face-place .ensures)) (c .before .before .before .before .before .before .vertex-at2 .ensures ∙ ap (at vs) (c .before .before .before .before .before .before .before .face-place2 .ensures))
-    (c .before .before .before .before .vertex-at3 .ensures ∙ ap (at vs) (c .before .before .before .before .before .face-place3 .ensures)) (c .before .before .before .face-place4 .ensures) (c .before .if1 .left) (c .vertex-at4 .ensures ∙ ap (at vs) (c .before .before .before .face-place4 .ensures))
+    let a = c .before .before .before .before .before .before .before .before .before .before .before .args in
+    let vs = usedOf (now (a .numbers)) in
+    let p = c .before .before .before .before .before .before .before .before .vertex-at .ensures ∙ ap (at vs) (c .before .before .before .before .before .before .before .before .before .face-place .ensures) in
+    let q = c .before .before .before .before .before .before .vertex-at2 .ensures ∙ ap (at vs) (c .before .before .before .before .before .before .before .face-place2 .ensures) in
+    let r = c .before .before .before .before .vertex-at3 .ensures ∙ ap (at vs) (c .before .before .before .before .before .face-place3 .ensures) in
+    let l = c .before .before .before .face-place4 .ensures in
+    let x = c .vertex-at4 .ensures ∙ ap (at vs) l in
+    read-four (a .solid) vs (a .i) p q r l (c .before .if1 .left) x
 
 pub face-of-spec : {M : Type 1} → statement M
 face-of-spec =

@@ -62,7 +62,9 @@ loop-again c =
 returns : tie.Need-returns Inv-loop μ-loop
 returns c =
     let z : c .before .loop .i ≡ 0 = omega arith in
-    found-first (usedOf (now (c .before .before .before .before .before .args .numbers))) (subst (λ (i : ℕ). Found (usedOf (now (c .before .before .before .before .before .args .numbers))) (c .before .loop .place) (c .before .loop .number) i) z (c .before .loop .inv))
+    let vs = usedOf (now (c .before .before .before .before .before .args .numbers)) in
+    let l = c .before .loop in
+    found-first vs (subst (λ (i : ℕ). Found vs (l .place) (l .number) i) z (l .inv))
 
 pub lowest-place-spec : {M : Type 1} → statement M
 lowest-place-spec =

@@ -42,8 +42,9 @@ vertex-at-requires-2 c κs = search needs
 
 diagonals-requires : tie.Need-diagonals-requires
 diagonals-requires c κs =
-    let p = c .before .before .before .before .before .pre in
-    few (now (c .before .before .before .before .before .args .numbers)) (p .0) (p .1) (c .before .before .before .lowest-place .ensures) (c .before .before .vertex-at .ensures) (c .before .opposite-place .ensures) (c .vertex-at2 .ensures)
+    let w = c .before .before .before .before .before .pre in
+    few (now (c .before .before .before .before .before .args .numbers)) (w .0) (w .1) (c .before .before .before .lowest-place .ensures) (c .before .before .vertex-at .ensures)
+    (c .before .opposite-place .ensures) (c .vertex-at2 .ensures)
 
 cast-result : tie.Need-cast-result
 cast-result c = search needs
@@ -56,14 +57,17 @@ mul-result c = search needs
 
 add-result : tie.Need-add-result
 add-result c =
-    let p = c .before .before .before .before .before .before .before .pre in
-    let m = few (now (c .before .before .before .before .before .before .before .args .numbers)) (p .0) (p .1) (c .before .before .before .before .before .lowest-place .ensures) (c .before .before .before .before .vertex-at .ensures) (c .before .before .before .opposite-place .ensures) (c .before .before .vertex-at2 .ensures) in
-    omega (arith, c .before .diagonals .ensures, c .before .before .before .before .before .lowest-place .ensures, first-place (now (c .before .before .before .before .before .before .before .args .numbers)) (p .0))
+    let r = now (c .before .before .before .before .before .before .before .args .numbers) in
+    let w = c .before .before .before .before .before .before .before .pre in
+    let p = c .before .before .before .before .before .lowest-place .ensures in
+    let m = few r (w .0) (w .1) p (c .before .before .before .before .vertex-at .ensures) (c .before .before .before .opposite-place .ensures) (c .before .before .vertex-at2 .ensures) in
+    omega (arith, c .before .diagonals .ensures, first-place r (w .0))
 
 returns : tie.Need-returns
 returns c =
-    let p = c .before .before .before .before .before .before .before .pre in
-    row (now (c .before .before .before .before .before .before .before .args .numbers)) (p .0) (p .1) (c .before .before .before .before .before .lowest-place .ensures) (c .before .before .before .before .vertex-at .ensures) (c .before .before .before .opposite-place .ensures) (c .before .before .vertex-at2 .ensures) (c .before .diagonals .ensures)
+    let w = c .before .before .before .before .before .before .before .pre in
+    row (now (c .before .before .before .before .before .before .before .args .numbers)) (w .0) (w .1) (c .before .before .before .before .before .lowest-place .ensures) (c .before .before .before .before .vertex-at .ensures)
+    (c .before .before .before .opposite-place .ensures) (c .before .before .vertex-at2 .ensures) (c .before .diagonals .ensures)
 
 pub row-of-spec : {M : Type 1} → statement M
 row-of-spec =

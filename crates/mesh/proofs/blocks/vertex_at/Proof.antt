@@ -26,13 +26,17 @@ cast-if1 : tie.Need-cast-if1
 cast-if1 c = search needs
 
 returns : tie.Need-returns
-returns c = beyond (now (c .before .before .before .before .args .numbers)) (c .before .before .before .before .args .place .0) (omega (arith, c .before .before .kind-of .ensures, c .if1 .taken))
+returns c =
+    let a = c .before .before .before .before .args in
+    beyond (now (a .numbers)) (a .place .0) (omega (arith, c .before .before .kind-of .ensures, c .if1 .taken))
 
 corner-requires : tie.Need-corner-requires
 corner-requires c κs = search needs
 
 returns-2 : tie.Need-returns-2
-returns-2 c = c .corner .ensures ∙ corner-used (now (c .before .before .before .before .before .args .numbers)) (c .before .before .before .before .before .args .place .0) (omega (arith, c .before .before .before .kind-of .ensures, c .before .if1 .left))
+returns-2 c =
+    let a = c .before .before .before .before .before .args in
+    c .corner .ensures ∙ corner-used (now (a .numbers)) (a .place .0) (omega (arith, c .before .before .before .kind-of .ensures, c .before .if1 .left))
 
 pub vertex-at-spec : {M : Type 1} → statement M
 vertex-at-spec = tie.close (tie.spec kind-of-requires cast-if1 returns corner-requires returns-2)

@@ -12,7 +12,10 @@ is-corner-requires : tie.Need-is-corner-requires
 is-corner-requires c κs = search needs
 
 returns : tie.Need-returns
-returns c = bit-near (c .before .before .args .low .0) (c .before .before .args .high .0) (faceOf (c .before .before .args .face)) (c .before .before .args .number) (sym (c .before .is-corner .ensures) ∙ c .if1 .taken)
+returns c =
+    let a = c .before .before .args in
+    let near = sym (c .before .is-corner .ensures) ∙ c .if1 .taken in
+    bit-near (a .low .0) (a .high .0) (faceOf (a .face)) (a .number) near
 
 lowest-first-requires : tie.Need-lowest-first-requires
 lowest-first-requires c κs = search needs
@@ -28,18 +31,20 @@ add-result c = search needs
 
 returns-2 : tie.Need-returns-2
 returns-2 c =
-    let high = c .before .before .before .before .before .args .high .0 in
-    bit-through (c .before .before .before .before .before .args .low .0) high (faceOf (c .before .before .before .before .before .args .face)) (c .before .before .before .before .before .args .number) (sym (c .before .before .before .before .is-corner .ensures) ∙ c .before .before .before .if1 .left)
-    (ap (onDiagonal high) (sym (c .before .before .lowest-first .ensures)) ∙ sym (c .before .on-diagonal .ensures) ∙ c .if2 .taken)
+    let a = c .before .before .before .before .before .args in
+    let far = sym (c .before .before .before .before .is-corner .ensures) ∙ c .before .before .before .if1 .left in
+    let turned = ap (onDiagonal (a .high .0)) (sym (c .before .before .lowest-first .ensures)) in
+    bit-through (a .low .0) (a .high .0) (faceOf (a .face)) (a .number) far (turned ∙ sym (c .before .on-diagonal .ensures) ∙ c .if2 .taken)
 
 mul-result-2 : tie.Need-mul-result-2
 mul-result-2 c = search needs
 
 returns-3 : tie.Need-returns-3
 returns-3 c =
-    let high = c .before .before .before .before .before .args .high .0 in
-    bit-beside (c .before .before .before .before .before .args .low .0) high (faceOf (c .before .before .before .before .before .args .face)) (c .before .before .before .before .before .args .number) (sym (c .before .before .before .before .is-corner .ensures) ∙ c .before .before .before .if1 .left)
-    (ap (onDiagonal high) (sym (c .before .before .lowest-first .ensures)) ∙ sym (c .before .on-diagonal .ensures) ∙ c .if2 .left)
+    let a = c .before .before .before .before .before .args in
+    let far = sym (c .before .before .before .before .is-corner .ensures) ∙ c .before .before .before .if1 .left in
+    let turned = ap (onDiagonal (a .high .0)) (sym (c .before .before .lowest-first .ensures)) in
+    bit-beside (a .low .0) (a .high .0) (faceOf (a .face)) (a .number) far (turned ∙ sym (c .before .on-diagonal .ensures) ∙ c .if2 .left)
 
 pub with-bit-spec : {M : Type 1} → statement M
 with-bit-spec =

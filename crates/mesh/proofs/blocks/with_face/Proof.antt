@@ -16,7 +16,9 @@ is-corner-requires : tie.Need-is-corner-requires
 is-corner-requires c κs = search needs
 
 returns : tie.Need-returns
-returns c = rw (near-tets (c .before .before .args .low .0) (faceOf (c .before .before .args .face)) (sym (c .before .is-corner .ensures) ∙ c .if1 .taken)) (grown-none (c .before .before .args .block))
+returns c =
+    let a = c .before .before .args in
+    rw (near-tets (a .low .0) (faceOf (a .face)) (sym (c .before .is-corner .ensures) ∙ c .if1 .taken)) (grown-none (a .block))
 
 lowest-first-requires : tie.Need-lowest-first-requires
 lowest-first-requires c κs = search needs

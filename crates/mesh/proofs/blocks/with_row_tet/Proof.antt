@@ -19,7 +19,10 @@ row-place-requires : tie.Need-row-place-requires
 row-place-requires c κs = search needs
 
 returns : tie.Need-returns
-returns c = rw (row-none (usedOf (now (c .before .before .before .before .args .numbers))) (c .before .before .before .before .args .row) (c .before .before .before .before .args .k) (eq-eqb _ _ (sym (c .before .before .row-place .ensures) ∙ c .if1 .taken))) (grown-none (c .before .before .before .before .args .block))
+returns c =
+    let a = c .before .before .before .before .args in
+    let zero = sym (c .before .before .row-place .ensures) ∙ c .if1 .taken in
+    rw (row-none (usedOf (now (a .numbers))) (a .row) (a .k) (eq-eqb _ _ zero)) (grown-none (a .block))
 
 row-tet-requires : tie.Need-row-tet-requires
 row-tet-requires c κs = search needs
@@ -29,9 +32,10 @@ added-requires c κs = search needs
 
 returns-2 : tie.Need-returns-2
 returns-2 c =
-    let b = c .before .before .before .before .before .before .args .block in
-    let one = row-one (usedOf (now (c .before .before .before .before .before .before .args .numbers))) (c .before .before .before .before .before .before .args .row) (c .before .before .before .before .before .before .args .k) (ne-eqb _ _ (λ e. c .before .before .if1 .left (c .before .before .before .before .row-place .ensures ∙ e))) in
-    subst (λ l. Grown b l (c .added .result)) (ap (λ t. t ∷ []) (c .before .row-tet .ensures) ∙ sym one) (c .added .ensures)
+    let a = c .before .before .before .before .before .before .args in
+    let place = c .before .before .before .before .row-place .ensures in
+    let one = row-one (usedOf (now (a .numbers))) (a .row) (a .k) (ne-eqb _ _ (λ e. c .before .before .if1 .left (place ∙ e))) in
+    subst (λ l. Grown (a .block) l (c .added .result)) (ap (λ t. t ∷ []) (c .before .row-tet .ensures) ∙ sym one) (c .added .ensures)
 
 pub with-row-tet-spec : {M : Type 1} → statement M
 with-row-tet-spec =

@@ -16,7 +16,7 @@ block-of-requires c κs = search needs
 put-tets-requires : tie.Need-put-tets-requires
 put-tets-requires c κs =
     let h = c .before .before .block-of .ensures in
-    (h .few, omega (arith, h .many, c .before .before .before .before .before .pre .1))
+    (omega (arith, h .few), omega (arith, h .many, c .before .before .before .before .before .pre .1))
 
 same-length : tie.Need-same-length
 same-length c = search needs
@@ -24,10 +24,11 @@ same-length c = search needs
 returns : tie.Need-returns
 unfolding tetsIn
 returns c =
+    let a = c .before .before .before .before .before .before .before .before .args in
     let h = c .before .before .before .before .before .block-of .ensures in
     record {
       count = sym (h .many);
-      output = c .before .before .put-tets .ensures ∙ ap (λ ts. placed (now (c .before .before .before .before .before .before .before .before .args .out)) (c .before .before .before .before .before .before .before .before .args .at) (flat ts)) (h .same);
+      output = c .before .before .put-tets .ensures ∙ ap (λ ts. placed (now (a .out)) (a .at) (flat ts)) (h .same);
     }
 
 pub put-element-spec : {M : Type 1} → statement M
