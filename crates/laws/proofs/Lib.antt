@@ -8,3 +8,4 @@ pub mod SizeLaws
 pub mod IntegerLaws
 pub mod WordLaws
 pub mod PassLaws
+pub mod ListLaws

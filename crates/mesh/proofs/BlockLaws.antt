@@ -1,28 +1,15 @@
 -- Blocks that grow: tetrahedra put into a block that is in order, one after the other, leave the block of all of them in order.
 -- Assumes nothing.
 use mathlib.Core.Path.{_≡_, refl, sym, ap, _∙_}
-use mathlib.Core.Bool.{Bool, true, false, cond}
-use mathlib.Core.List.{List, [], _∷_, _++_, map, append-assoc}
-use Prim.Native.Nat.{ℕ, zero, suc, _+_, _≤_, _<_}
+use mathlib.Core.List.{List, [], _∷_, _++_}
+use Prim.Native.Nat.{ℕ, _+_, _≤_}
 use native.Mathlib.Omega.{arith}
 use lib.ListN.{length, length-append}
-use Rattle.solids.specs.Solids.{Tet, ofTet}
-use Rattle.solids.specs.Cut.{written, upTo, insert, inOrder}
+use Rattle.solids.specs.Solids.{Tet}
+use Rattle.solids.specs.Cut.{written, insert, inOrder}
+use Rattle.solids.proofs.CountLaws.{length-inOrder}
 use Rattle.mesh.specs.declared.blocks.Block.{Block}
 use Rattle.mesh.specs.BlockLoops.{tetsIn, BlockIs, joined, Grown}
-
-length-insert : (t : Tet ℕ) (l : List (Tet ℕ)) → length (insert t l) ≡ suc (length l)
-length-insert t [] = refl
-length-insert t (u ∷ us) = go (upTo (ofTet t) (ofTet u)) (length-insert t us)
-  where
-    go : (b : Bool) → length (insert t us) ≡ suc (length us) → length (cond b (t ∷ (u ∷ us)) (u ∷ insert t us)) ≡ suc (suc (length us))
-    go true e = refl
-    go false e = ap suc e
-
--- to put in order drops none
-pub length-inOrder : (l : List (Tet ℕ)) → length (inOrder l) ≡ length l
-length-inOrder [] = refl
-length-inOrder (t ∷ l) = length-insert (written t) (inOrder l) ∙ ap suc (length-inOrder l)
 
 joined-inOrder : (ts us : List (Tet ℕ)) → joined ts (inOrder us) ≡ inOrder (ts ++ us)
 joined-inOrder [] us = refl

@@ -1,24 +1,21 @@
 -- The face that a program puts together from its places is the face that the solid lists.
 -- Assumes nothing.
 use mathlib.Core.Path.{_≡_, refl, sym, ap, _∙_}
-use mathlib.Core.Bool.{Bool, true, cond, _&&_}
+use mathlib.Core.Bool.{Bool, true, _&&_}
 use mathlib.Core.List.{List, [], _∷_, map}
-use Prim.Native.Nat.{ℕ, zero, suc, _≤_, _<_}
+use Prim.Native.Nat.{ℕ, zero, suc, _<_}
 use native.Mathlib.Nat.{not-suc-le-zero, le-of-suc-le-suc}
 use native.Mathlib.Omega.{arith}
-use lib.Dec.{T, eqb, ltb, ltb→lt}
+use lib.Dec.{T, ltb, ltb→lt}
 use lib.ListN.{length, getD, drop}
 use borrow.Author.Tests.{eq-eqb, ne-eqb}
 use Rattle.laws.specs.Words.{every}
 use Rattle.laws.proofs.TestLaws.{and-left, and-right}
+use Rattle.laws.proofs.ListLaws.{map-drop}
 use Rattle.solids.specs.declared.Solid.{Solid}
 use Rattle.solids.specs.declared.Solid.the-variants.{Tetrahedron, Pyramid, Prism, Hexahedron}
-use Rattle.solids.specs.Solids.{Face, three, four, Element, element, faces, faceCount, faceCorners, facePlace, facesOf, at, ofFace, onFace}
-use Rattle.mesh.specs.BlockLoops.{faceAt, faceIn}
-
--- four numbers make a face, the fourth of a triangle being 0
-abbrev made : List ℕ → Face ℕ
-made l = cond (eqb (getD l 3 0) 0) (three (getD l 0 0) (getD l 1 0) (getD l 2 0)) (four (getD l 0 0) (getD l 1 0) (getD l 2 0) (getD l 3 0))
+use Rattle.solids.specs.Solids.{Face, three, four, element, faces, faceCount, faceCorners, facePlace, facesOf, at, ofFace, onFace}
+use Rattle.mesh.specs.BlockLoops.{made, faceIn}
 
 -- no corner is 0
 abbrev sound : List (Face ℕ) → Bool
@@ -41,26 +38,21 @@ faces-sound Pyramid = tt
 faces-sound Prism = tt
 faces-sound Hexahedron = tt
 
-map-drop : {A B : Type 0} (f : A → B) (i : ℕ) (l : List A) → drop i (map f l) ≡ map f (drop i l)
-map-drop f zero l = refl
-map-drop f (suc i) [] = refl
-map-drop f (suc i) (x ∷ l) = map-drop f i l
-
 -- the faces from i on are the face i and those behind it
 pub face-next : (s : Solid) (vs : List ℕ) (i : ℕ) → i < faceCount s → drop i (facesOf (element s vs)) ≡ faceIn s vs i ∷ drop (suc i) (facesOf (element s vs))
-unfolding faceIn facePlace faceCorners
+unfolding faceIn faceCorners
 face-next s vs i h =
     map-drop (onFace (at vs)) i (faces s)
     ∙ ap (map (onFace (at vs))) (made-at (faces s) (faces-sound s) i h)
-    ∙ ap (λ fs. onFace (at vs) (faceAt s i) ∷ fs) (sym (map-drop (onFace (at vs)) (suc i) (faces s)))
+    ∙ ap (λ fs. faceIn s vs i ∷ fs) (sym (map-drop (onFace (at vs)) (suc i) (faces s)))
 
 -- a face read place by place
 module _ (s : Solid) (vs : List ℕ) (i : ℕ) {p q r l : ℕ}
     (hp : p ≡ at vs (facePlace s i 0)) (hq : q ≡ at vs (facePlace s i 1)) (hr : r ≡ at vs (facePlace s i 2)) (hl : l ≡ facePlace s i 3) where
   pub read-three : l ≡ 0 → three p q r ≡ faceIn s vs i
-  unfolding faceIn
+  unfolding faceIn facePlace
   read-three z = rw (eq-eqb (facePlace s i 3) 0 (sym hl ∙ z), hp, hq, hr)
 
   pub read-four : (l ≡ 0 → ⊥) → {x : ℕ} → x ≡ at vs (facePlace s i 3) → four p q r x ≡ faceIn s vs i
-  unfolding faceIn
+  unfolding faceIn facePlace
   read-four z hx = rw (ne-eqb (facePlace s i 3) 0 (λ e. z (hl ∙ e)), hp, hq, hr, hx)

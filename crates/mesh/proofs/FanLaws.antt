@@ -1,14 +1,14 @@
 -- The fan, face by face.
 -- Assumes nothing.
-use mathlib.Core.Path.{_≡_, refl, sym, ap, _∙_}
+use mathlib.Core.Path.{_≡_, refl}
 use mathlib.Core.Bool.{Bool, true, false, cond, not}
 use mathlib.Core.List.{List, [], _∷_, _++_, map, map-append}
-use Prim.Native.Nat.{ℕ, zero, suc, _+_, _≤_, _<_}
+use Prim.Native.Nat.{ℕ, zero, suc, _+_, _≤_}
 use native.Mathlib.Nat.{le-refl}
 use native.Mathlib.Omega.{arith}
 use lib.ListN.{length, drop, length-append}
 use Rattle.laws.specs.Words.{keep, gather}
-use Rattle.solids.specs.Solids.{Face, Tri, Tet, holds}
+use Rattle.solids.specs.Solids.{Face, Tet, holds}
 use Rattle.solids.specs.Cut.{cutFace, follow}
 use Rattle.mesh.specs.BlockLoops.{faceTets}
 

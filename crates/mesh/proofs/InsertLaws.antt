@@ -1,13 +1,13 @@
 -- A turn of the loop that puts a tetrahedron into a list: the one in hand is stored where it goes before what stands there, and that one then goes
 -- on in its stead.
 -- Assumes nothing.
-use mathlib.Core.Path.{_≡_, refl, sym, ap, _∙_}
+use mathlib.Core.Path.{_≡_, refl, sym, _∙_}
 use mathlib.Core.Bool.{Bool, true, false, _||_}
-use mathlib.Core.List.{List, [], _∷_, _++_, map, map-append, append-assoc}
+use mathlib.Core.List.{List, [], _∷_, _++_, map, map-append}
 use Prim.Native.Nat.{ℕ, suc, _≤_, _<_}
-use native.Mathlib.Nat.{le-refl, le-of-lt}
+use native.Mathlib.Nat.{le-refl}
 use native.Mathlib.Omega.{arith}
-use lib.ListN.{length, take, drop, getD, set}
+use lib.ListN.{length, take, getD, set}
 use lib.Seq.{slice, slice-cons, slice-empty, take-suc, take-suc-set, take-set-lt, drop-set-lt, append-snoc}
 use Rattle.solids.specs.Solids.{Tet, ofTet}
 use Rattle.solids.specs.Cut.{upTo, insert}
@@ -17,7 +17,7 @@ use Rattle.mesh.specs.BlockLoops.{tetOf}
 
 -- what is read where an array has none
 abbrev pub none : code.Tet
-none = record { a = record { 0 = 0 }; b = record { 0 = 0 }; c = record { 0 = 0 }; d = record { 0 = 0 } }
+none = record { 0 = record { 0 = 0 }; 1 = record { 0 = 0 }; 2 = record { 0 = 0 }; 3 = record { 0 = 0 } }
 
 -- the one in hand put among the rest, before all of them if it made room for another
 abbrev put : Bool → Tet ℕ → List (Tet ℕ) → List (Tet ℕ)

@@ -1,13 +1,13 @@
 -- The lowest number of a list and its place, found from the last number on.
 -- Assumes nothing.
 use mathlib.Core.Path.{_≡_, refl, sym, ap, _∙_}
-use mathlib.Core.Bool.{Bool, true, false, cond}
+use mathlib.Core.Bool.{true, false}
 use mathlib.Core.List.{List, [], _∷_}
 use Prim.Native.Nat.{ℕ, zero, suc, _+_, _-_, _≤_, _<_, min}
 use native.Mathlib.Nat.{not-suc-le-zero, min-eq-left, min-eq-right, zero-add}
 use native.Mathlib.Omega.{arith}
 use lib.Dec.{eqb}
-use lib.ListN.{length, getD, drop, length-drop, drop-of-length-le}
+use lib.ListN.{length, drop, length-drop, drop-of-length-le}
 use lib.Seq.{drop-cons}
 use borrow.Author.Tests.{eq-eqb, ne-eqb}
 use Rattle.laws.specs.Words.{lowest}
@@ -72,3 +72,10 @@ module _ (vs : List ℕ) where
 
   pub found-first : {p m : ℕ} → Found vs p m 0 → p ≡ first vs
   found-first f = f .place ∙ zero-add _ ∙ ap (λ (n : ℕ). placeOf n vs) (f .number)
+
+-- a number compared with the lowest
+pub is-lowest : {x m l : ℕ} → x ≡ m → m ≡ l → eqb x l ≡ true
+is-lowest {x} {l} e f = eq-eqb x l (e ∙ f)
+
+pub not-lowest : {x m l : ℕ} → (x ≡ m → ⊥) → m ≡ l → eqb x l ≡ false
+not-lowest {x} {l} n f = ne-eqb x l (λ e. n (e ∙ sym f))

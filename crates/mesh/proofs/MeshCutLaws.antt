@@ -2,17 +2,18 @@
 -- Assumes nothing.
 use mathlib.Core.Path.{_≡_, refl, sym, ap, _∙_}
 use mathlib.Core.List.{List, [], _∷_, _++_, append-nil}
-use Prim.Native.Nat.{ℕ, zero, suc, _+_, _*_, _-_, _≤_, _<_}
+use Prim.Native.Nat.{ℕ, zero, suc, _+_, _*_, _-_, _≤_}
 use native.Mathlib.Nat.{le-refl, add-zero, add-suc, add-sub-of-le}
 use native.Mathlib.Numerals.{add-one}
 use native.Mathlib.Omega.{arith}
 use lib.ListN.{length, length-append}
 use Rattle.laws.specs.Lent.{placed}
-use Rattle.solids.specs.Solids.{Tet, Element}
+use Rattle.laws.proofs.ListLaws.{gather-append}
+use Rattle.solids.specs.Solids.{Tet}
 use Rattle.solids.specs.Cut.{cut, cutMesh}
 use Rattle.records.specs.Record.{elementOf, recordAt, elementAt, firstElements}
 use Rattle.mesh.specs.Cutting.{tetWidth, flat}
-use Rattle.mesh.proofs.StoreLaws.{gather-append, placed-after}
+use Rattle.mesh.proofs.StoreLaws.{placed-after}
 
 module _ (t : List ℕ) where
   -- the cut of the first k elements

@@ -1,27 +1,35 @@
 -- The cut of a whole record's element: by its row if it is a hexahedron, by the fan if it is not; at most six tetrahedra.
 -- Assumes nothing.
-use mathlib.Core.Path.{_≡_, refl, sym, ap, _∙_, subst}
+use mathlib.Core.Path.{_≡_, sym, ap, _∙_, subst}
 use mathlib.Core.List.{List}
 use Prim.Native.Nat.{ℕ, zero, suc, _-_, _≤_, _<_}
 use native.Mathlib.Omega.{arith}
 use lib.Dec.{T, ltb→lt}
 use lib.ListN.{length}
 use Rattle.laws.specs.Words.{lowest}
-use Rattle.solids.specs.declared.Solid.{Solid}
 use Rattle.solids.specs.declared.Solid.the-variants.{Hexahedron}
-use Rattle.solids.specs.Solids.{Tet, element, corners, at, opposite, facesOf}
+use Rattle.solids.specs.Solids.{element, corners, at, opposite, facesOf}
 use Rattle.solids.specs.Cut.{first, bitsOf, fan, tetsOf, inOrder, cut}
 use Rattle.solids.specs.Rows.{binary, rowOf, cutByRow}
 use Rattle.solids.proofs.NumberingLaws.{inside, lowest-place}
 use Rattle.solids.proofs.ShapeLaws.{Proper, first-inside}
 use Rattle.solids.proofs.RowLaws.{rows-agree}
-use Rattle.records.specs.Record.{kindOf, usedOf, solidOf, elementOf}
+use Rattle.solids.proofs.CountLaws.{length-inOrder, proper-six}
+use Rattle.records.specs.Record.{kindOf, usedOf, isKind, solidOf, elementOf}
 use Rattle.records.specs.Loops.{Whole}
-use Rattle.records.proofs.RecordLaws.{IsOne, is-4, is-5, is-6, is-8, which-kind, kind-corners, kind-small, used-length}
+use Rattle.records.proofs.RecordLaws.{IsOne, is-4, is-5, is-6, is-8, which-kind, kind-corners, kind-small, used-length, whole-proper}
 use Rattle.mesh.specs.BlockLoops.{choice}
-use Rattle.mesh.proofs.CornerLaws.{kind-least}
-use Rattle.mesh.proofs.BlockLaws.{length-inOrder}
-use Rattle.mesh.proofs.ShapeBounds.{tets-few, bits-small, row-small}
+use Rattle.mesh.proofs.RowBounds.{bits-small, row-small}
+
+-- no solid has fewer than four corners
+pub kind-least : (k : ℕ) → T (isKind k) → 4 ≤ k
+kind-least k h = go (which-kind k h)
+  where
+    go : IsOne k → 4 ≤ k
+    go (is-4 e) = omega arith
+    go (is-5 e) = omega arith
+    go (is-6 e) = omega arith
+    go (is-8 e) = omega arith
 
 from-inside : (n p : ℕ) → T (inside n p) → (1 ≤ p) × (p ≤ n)
 from-inside n zero h = absurd h
@@ -45,14 +53,9 @@ module _ (r : List ℕ) (w : Whole r) where
       let k = kind-least (kindOf r) (w .kind) in
       lowest-place (kindOf r - 1) (usedOf r) (omega arith) .0
 
-  tets-most : length (tetsOf (elementOf r)) ≤ 6
-  unfolding elementOf
-  tets-most = tets-few (solidOf (kindOf r)) (usedOf r) proper-record
-
   -- at most six tetrahedra
   pub cut-few : length (cut (elementOf r)) ≤ 6
-  unfolding cut
-  cut-few = rw (length-inOrder (tetsOf (elementOf r))) tets-most
+  cut-few = proper-six (elementOf r) (whole-proper r w)
 
   module _ (e : kindOf r ≡ 8) where
     is-hexahedron : solidOf (kindOf r) ≡ Hexahedron
@@ -88,7 +91,7 @@ module _ (r : List ℕ) (w : Whole r) where
     cut-by-fan = ap inOrder (sym tets-fan)
 
     pub fan-few : length (fan (elementOf r)) ≤ 6
-    fan-few = rw tets-fan at tets-most
+    fan-few = omega (arith, cut-few, ap length cut-by-fan, length-inOrder (fan (elementOf r)))
 
 -- the choice of far diagonals is that of the faces that do not hold the lowest corner
 pub choice-is : (vs : List ℕ) {low high : ℕ} → low ≡ lowest vs → high ≡ at vs (opposite (first vs)) → choice low high (facesOf (element Hexahedron vs)) ≡ binary (bitsOf vs)

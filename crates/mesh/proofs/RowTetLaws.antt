@@ -1,15 +1,15 @@
 -- A row of cuts, tetrahedron by tetrahedron.
 -- Assumes nothing.
-use mathlib.Core.Path.{_≡_, refl, sym, ap, _∙_}
+use mathlib.Core.Path.{_≡_, refl, ap, _∙_}
 use mathlib.Core.Bool.{Bool, true, false, cond}
 use mathlib.Core.List.{List, [], _∷_, _++_, map}
-use Prim.Native.Nat.{ℕ, zero, suc, _+_, _*_, _-_, _≤_, _<_, zero-le}
-use native.Mathlib.Nat.{not-suc-le-zero, le-refl}
+use Prim.Native.Nat.{ℕ, suc, _+_, _*_, _-_, _≤_, _<_, zero-le}
+use native.Mathlib.Nat.{le-refl}
 use native.Mathlib.Omega.{arith}
 use lib.Dec.{eqb}
 use lib.ListN.{length, getD, drop, length-drop}
 use lib.Seq.{drop-cons}
-use Rattle.solids.specs.Solids.{Tet, tet, onTet, at}
+use Rattle.solids.specs.Solids.{Tet, onTet, at}
 use Rattle.solids.specs.Rows.{rowPlaces, rowPlace, rowTets}
 use Rattle.solids.proofs.TableLaws.{row-length}
 use Rattle.mesh.specs.BlockLoops.{rowTet, rowTetsAt}

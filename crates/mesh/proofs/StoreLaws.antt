@@ -1,22 +1,18 @@
 -- Tetrahedra as numbers, one after the other, and stored one after the other.
 -- Assumes nothing.
 use mathlib.Core.Path.{_≡_, refl, sym, ap, _∙_}
-use mathlib.Core.List.{List, [], _∷_, _++_, map, map-append, append-assoc}
-use Prim.Native.Nat.{ℕ, zero, suc, _+_, _*_, _≤_, _<_}
+use mathlib.Core.List.{List, [], _∷_, _++_, map, map-append}
+use Prim.Native.Nat.{ℕ, suc, _+_, _*_, _≤_, _<_}
 use native.Mathlib.Omega.{arith}
-use lib.ListN.{length, take, getD, length-append, length-map}
+use lib.ListN.{length, take, getD, length-map}
 use lib.Seq.{take-suc, length-take-le}
-use Rattle.laws.specs.Words.{gather}
 use Rattle.laws.specs.Lent.{placed}
 use Rattle.laws.proofs.LentLaws.{placed-placed}
+use Rattle.laws.proofs.ListLaws.{gather-append}
 use Rattle.solids.specs.Solids.{Tet, tet, ofTet}
 use Rattle.mesh.specs.Cutting.{tetWidth, flat}
 use Rattle.mesh.specs.declared.blocks.Tet as code
 use Rattle.mesh.specs.BlockLoops.{tetOf}
-
-pub gather-append : {A B : Type 0} (f : A → List B) (xs ys : List A) → gather f (xs ++ ys) ≡ gather f xs ++ gather f ys
-gather-append f [] ys = refl
-gather-append f (x ∷ xs) ys = ap (λ l. f x ++ l) (gather-append f xs ys) ∙ sym (append-assoc (f x) (gather f xs) (gather f ys))
 
 pub flat-append : (x y : List (Tet ℕ)) → flat (x ++ y) ≡ flat x ++ flat y
 unfolding flat

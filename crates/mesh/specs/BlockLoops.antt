@@ -1,15 +1,15 @@
--- Shapes that only the functions of the private modules blocks and cutting want; proofs/FanLaws.antt, proofs/ChoiceLaws.antt and
--- proofs/TableRowLaws.antt say that each is what the page's definitions give.
+-- Shapes that only the functions of the private modules blocks and cutting want; proofs/FaceLaws.antt, FanLaws.antt, ChoiceLaws.antt,
+-- RowTetLaws.antt and BlockLaws.antt say that they are what the page's definitions give.
 use mathlib.Core.Path.{_≡_}
 use mathlib.Core.Bool.{cond, not}
 use mathlib.Core.List.{List, [], _∷_, map}
 use Prim.Native.Nat.{ℕ, _+_, _*_, _≤_}
 use lib.Dec.{eqb}
-use lib.ListN.{length, take}
+use lib.ListN.{length, getD, take}
 use Rattle.laws.specs.Words.{keep}
 use Rattle.laws.specs.Lent.{placed}
 use Rattle.solids.specs.declared.Solid.{Solid}
-use Rattle.solids.specs.Solids.{Place, Vertex, Face, three, four, Tet, tet, at, onFace, onTet, holds, facePlace}
+use Rattle.solids.specs.Solids.{Place, Vertex, Face, three, four, Tet, tet, at, onFace, onTet, holds, faceCorners}
 use Rattle.solids.specs.Cut.{lowestFirst, cutFace, follow, onDiagonal, written, insert}
 use Rattle.solids.specs.Rows.{binary, rowPlace}
 use Rattle.mesh.specs.Cutting.{flat}
@@ -20,7 +20,7 @@ use Rattle.mesh.specs.declared.blocks.Block.{Block}
 
 -- the tetrahedron that four numbers of the code are
 abbrev pub tetOf : code-tet.Tet → Tet Vertex
-tetOf t = tet (t .a .0) (t .b .0) (t .c .0) (t .d .0)
+tetOf t = tet (t .0 .0) (t .1 .0) (t .2 .0) (t .3 .0)
 
 -- the face that three or four numbers of the code are
 abbrev pub faceOf : code-face.Face → Face Vertex
@@ -49,15 +49,15 @@ pub record Grown (b : Block) (ts : List (Tet Vertex)) (r : Block) : Type 0 where
 
 -- ---- a face
 
--- the face i of a solid, from 0, put together from its places; the fourth of a triangle is 0
-abbrev pub faceAt : Solid → ℕ → Face Place
-faceAt s i =
-    cond (eqb (facePlace s i 3) 0) (three (facePlace s i 0) (facePlace s i 1) (facePlace s i 2))
-    (four (facePlace s i 0) (facePlace s i 1) (facePlace s i 2) (facePlace s i 3))
+-- four places make a face, the fourth of a triangle being 0
+abbrev pub made : List Place → Face Place
+made l =
+    cond (eqb (getD l 3 0) 0) (three (getD l 0 0) (getD l 1 0) (getD l 2 0))
+    (four (getD l 0 0) (getD l 1 0) (getD l 2 0) (getD l 3 0))
 
--- the same in vertex numbers
+-- the face i of an element, from 0, in vertex numbers
 unfoldable pub faceIn : Solid → List Vertex → ℕ → Face Vertex
-faceIn s vs i = onFace (at vs) (faceAt s i)
+faceIn s vs i = onFace (at vs) (made (faceCorners s i))
 
 -- a vertex followed by each triangle of a cut face, where the face does not hold it
 unfoldable pub faceTets : Vertex → Face Vertex → List (Tet Vertex)

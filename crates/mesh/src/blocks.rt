@@ -12,17 +12,12 @@ ghost use Rattle.solids.specs.declared.Solid.the-variants.{Hexahedron};
 ghost use Rattle.solids.specs.Solids.{four, element, ofTet, onTet, at, opposite, holds, facesOf};
 ghost use Rattle.solids.specs.Cut.{lowestFirst, halves, follow, first, onDiagonal, fan, secondLowest, written, upTo, insert, inOrder, cut};
 ghost use Rattle.solids.specs.Rows.{rowPlace, rowOf, cutByRow};
-ghost use Rattle.records.specs.Record.{kindOf, usedOf, solidOf, elementOf};
+ghost use Rattle.records.specs.Record.{kindOf, usedOf, elementOf};
 ghost use Rattle.records.specs.Loops.{Whole};
 ghost use Rattle.mesh.specs.BlockLoops.{tetOf, faceOf, Grown, BlockIs, faceIn, faceTets, choice, withBit, rowTet, rowTetsAt};
 
 // A tetrahedron in vertex numbers.
-pub struct Tet {
-    pub a: Vertex,
-    pub b: Vertex,
-    pub c: Vertex,
-    pub d: Vertex,
-}
+pub struct Tet(pub Vertex, pub Vertex, pub Vertex, pub Vertex);
 
 // A face in vertex numbers.
 pub enum Face {
@@ -67,80 +62,55 @@ fn lowest_of_four(a: Vertex, b: Vertex, c: Vertex, d: Vertex) -> Vertex
 fn second_lowest(t: Tet) -> Tet
     ensures { λ r. ⌜ tetOf r ≡ secondLowest (tetOf t) ⌝ }
 {
-    let a = t.a;
-    let b = t.b;
-    let c = t.c;
-    let d = t.d;
+    let a = t.0;
+    let b = t.1;
+    let c = t.2;
+    let d = t.3;
     let m = lowest_of_three(b, c, d);
     if b.0 == m.0 {
         return t;
     }
     if c.0 == m.0 {
-        return Tet {
-            a: a,
-            b: c,
-            c: d,
-            d: b,
-        };
+        return Tet(a, c, d, b);
     }
-    Tet {
-        a: a,
-        b: d,
-        c: b,
-        d: c,
-    }
+    Tet(a, d, b, c)
 }
 
 // The lowest number first, by an exchange of two pairs, and then the lowest of the other three.
 fn written_form(t: Tet) -> Tet
     ensures { λ r. ⌜ tetOf r ≡ written (tetOf t) ⌝ }
 {
-    let a = t.a;
-    let b = t.b;
-    let c = t.c;
-    let d = t.d;
+    let a = t.0;
+    let b = t.1;
+    let c = t.2;
+    let d = t.3;
     let m = lowest_of_four(a, b, c, d);
     if a.0 == m.0 {
         return second_lowest(t);
     }
     if b.0 == m.0 {
-        return second_lowest(Tet {
-            a: b,
-            b: a,
-            c: d,
-            d: c,
-        });
+        return second_lowest(Tet(b, a, d, c));
     }
     if c.0 == m.0 {
-        return second_lowest(Tet {
-            a: c,
-            b: d,
-            c: a,
-            d: b,
-        });
+        return second_lowest(Tet(c, d, a, b));
     }
-    second_lowest(Tet {
-        a: d,
-        b: c,
-        c: b,
-        d: a,
-    })
+    second_lowest(Tet(d, c, b, a))
 }
 
 // Not above, compared number by number.
 fn up_to(t: Tet, u: Tet) -> bool
     ensures { λ r. ⌜ r ≡ upTo (ofTet (tetOf t)) (ofTet (tetOf u)) ⌝ }
 {
-    if t.a.0 != u.a.0 {
-        return t.a.0 < u.a.0;
+    if t.0.0 != u.0.0 {
+        return t.0.0 < u.0.0;
     }
-    if t.b.0 != u.b.0 {
-        return t.b.0 < u.b.0;
+    if t.1.0 != u.1.0 {
+        return t.1.0 < u.1.0;
     }
-    if t.c.0 != u.c.0 {
-        return t.c.0 < u.c.0;
+    if t.2.0 != u.2.0 {
+        return t.2.0 < u.2.0;
     }
-    t.d.0 <= u.d.0
+    t.3.0 <= u.3.0
 }
 
 // Whether the tetrahedron in hand goes before u: one that made room for another always does.
@@ -193,58 +163,22 @@ fn added(block: Block, t: Tet) -> Block
 fn no_tets() -> Block
     ensures { λ r. ⌜ BlockIs r [] ⌝ }
 {
-    let none = Tet {
-        a: Vertex(0),
-        b: Vertex(0),
-        c: Vertex(0),
-        d: Vertex(0),
-    };
+    let none = Tet(Vertex(0), Vertex(0), Vertex(0), Vertex(0));
     Block {
         tets: [none; 6],
         count: 0,
     }
 }
 
-// The kind of a record.
-fn kind_of(numbers: &[u16]) -> u16
-    requires { ⌜ Whole (now numbers) ⌝ }
-    ensures { λ r. ⌜ r ≡ kindOf (now (numbers .entry)) ⌝ }
-{
-    numbers[0]
-}
-
-// The solid of a record.
-fn solid_in(numbers: &[u16]) -> Solid
-    requires { ⌜ Whole (now numbers) ⌝ }
-    ensures { λ r. ⌜ r ≡ solidOf (kindOf (now (numbers .entry))) ⌝ }
-{
-    let kind = kind_of(numbers);
-    if kind == 4 {
-        return Solid::Tetrahedron;
-    }
-    if kind == 5 {
-        return Solid::Pyramid;
-    }
-    if kind == 6 {
-        return Solid::Prism;
-    }
-    Solid::Hexahedron
-}
-
-// The vertex at a place of a record; none at a place that its solid does not have.
-fn corner(numbers: &[u16], place: Place) -> Vertex
-    requires { ⌜ Whole (now numbers) ⌝ }
+// The vertex at a place of the element; none at a place that its solid does not have.
+fn vertex_at(numbers: &[u16], place: Place) -> Vertex
     ensures { λ r. ⌜ r .0 ≡ at (usedOf (now (numbers .entry))) (place .0) ⌝ }
 {
-    let kind = kind_of(numbers);
-    if place.0 == 0 {
-        return Vertex(0);
-    }
+    let kind = records::kind_of(numbers);
     if kind < (place.0 as u16) {
         return Vertex(0);
     }
-    let i = place.0 as usize;
-    Vertex(numbers[i])
+    records::corner(numbers, place)
 }
 
 // The place of the lowest number.
@@ -252,12 +186,12 @@ fn lowest_place(numbers: &[u16]) -> Place
     requires { ⌜ Whole (now numbers) ⌝ }
     ensures { λ r. ⌜ r .0 ≡ first (usedOf (now (numbers .entry))) ⌝ }
 {
-    let last = kind_of(numbers) as u8;
+    let last = records::kind_of(numbers) as u8;
     let mut place = last;
-    let mut number = corner(numbers, Place(last)).0;
+    let mut number = vertex_at(numbers, Place(last)).0;
     let mut i = last - 1;
     while 0 < i {
-        let v = corner(numbers, Place(i)).0;
+        let v = vertex_at(numbers, Place(i)).0;
         if v <= number {
             place = i;
             number = v;
@@ -278,17 +212,16 @@ fn opposite_place(place: Place) -> Place
 
 // The face i, from 0, of a record whose solid is given.
 fn face_of(numbers: &[u16], solid: Solid, i: usize) -> Face
-    requires { ⌜ Whole (now numbers) ⌝ }
     ensures { λ r. ⌜ faceOf r ≡ faceIn solid (usedOf (now (numbers .entry))) i ⌝ }
 {
-    let p = corner(numbers, solids::face_place(solid, i, 0));
-    let q = corner(numbers, solids::face_place(solid, i, 1));
-    let r = corner(numbers, solids::face_place(solid, i, 2));
+    let p = vertex_at(numbers, solids::face_place(solid, i, 0));
+    let q = vertex_at(numbers, solids::face_place(solid, i, 1));
+    let r = vertex_at(numbers, solids::face_place(solid, i, 2));
     let last = solids::face_place(solid, i, 3);
     if last.0 == 0 {
         return Face::Three(p, q, r);
     }
-    Face::Four(p, q, r, corner(numbers, last))
+    Face::Four(p, q, r, vertex_at(numbers, last))
 }
 
 // A vertex is one of three.
@@ -377,7 +310,6 @@ fn with_bit(number: usize, low: Vertex, high: Vertex, face: Face) -> usize
 
 // The choice of far diagonals of a hexahedron, the bit of its first far face last.
 fn diagonals(numbers: &[u16], low: Vertex, high: Vertex) -> usize
-    requires { ⌜ Whole (now numbers) ⌝ }
     requires { ⌜ choice (low .0) (high .0) (facesOf (element Hexahedron (usedOf (now numbers)))) ≤ 7 ⌝ }
     ensures { λ r. ⌜ r ≡ choice (low .0) (high .0) (facesOf (element Hexahedron (usedOf (now (numbers .entry))))) ⌝ }
 {
@@ -398,37 +330,34 @@ fn row_of(numbers: &[u16]) -> usize
     ensures { λ r. ⌜ r ≡ rowOf (usedOf (now (numbers .entry))) ⌝ }
 {
     let place = lowest_place(numbers);
-    let low = corner(numbers, place);
-    let high = corner(numbers, opposite_place(place));
+    let low = vertex_at(numbers, place);
+    let high = vertex_at(numbers, opposite_place(place));
     let number = diagonals(numbers, low, high);
     8 * (place.0 as usize - 1) + number
 }
 
 // The vertex of a record at the place `place` of a row of cuts.
-fn row_corner(numbers: &[u16], row: usize, place: usize) -> Vertex
-    requires { ⌜ Whole (now numbers) ⌝ }
+fn row_vertex(numbers: &[u16], row: usize, place: usize) -> Vertex
     ensures { λ r. ⌜ r .0 ≡ at (usedOf (now (numbers .entry))) (rowPlace row place) ⌝ }
 {
-    corner(numbers, solids::row_place(row, place))
+    vertex_at(numbers, solids::row_place(row, place))
 }
 
 // The tetrahedron k, from 0, of a row of cuts, in vertex numbers.
 fn row_tet(numbers: &[u16], row: usize, k: usize) -> Tet
-    requires { ⌜ Whole (now numbers) ⌝ }
     requires { ⌜ k < 6 ⌝ }
     ensures { λ t. ⌜ tetOf t ≡ onTet (at (usedOf (now (numbers .entry)))) (rowTet row k) ⌝ }
 {
-    Tet {
-        a: row_corner(numbers, row, 4 * k),
-        b: row_corner(numbers, row, 4 * k + 1),
-        c: row_corner(numbers, row, 4 * k + 2),
-        d: row_corner(numbers, row, 4 * k + 3),
-    }
+    Tet(
+        row_vertex(numbers, row, 4 * k),
+        row_vertex(numbers, row, 4 * k + 1),
+        row_vertex(numbers, row, 4 * k + 2),
+        row_vertex(numbers, row, 4 * k + 3),
+    )
 }
 
 // A block with the tetrahedron k of a row of cuts, unless that is four zeros.
 fn with_row_tet(block: Block, numbers: &[u16], row: usize, k: usize) -> Block
-    requires { ⌜ Whole (now numbers) ⌝ }
     requires { ⌜ k < 6 ⌝ }
     requires { ⌜ block .count < 6 ⌝ }
     ensures { λ r. ⌜ Grown block (rowTetsAt (usedOf (now (numbers .entry))) row k) r ⌝ }
@@ -463,34 +392,10 @@ fn with_triangles(block: Block, v: Vertex, face: Face) -> Block
     ensures { λ r. ⌜ Grown block (map (follow (v .0)) (halves (faceOf face))) r ⌝ }
 {
     match face {
-        Face::Three(p, q, r) => added(
-            block,
-            Tet {
-                a: v,
-                b: p,
-                c: q,
-                d: r,
-            },
-        ),
+        Face::Three(p, q, r) => added(block, Tet(v, p, q, r)),
         Face::Four(p, q, r, s) => {
-            let later = added(
-                block,
-                Tet {
-                    a: v,
-                    b: p,
-                    c: r,
-                    d: s,
-                },
-            );
-            added(
-                later,
-                Tet {
-                    a: v,
-                    b: p,
-                    c: q,
-                    d: r,
-                },
-            )
+            let later = added(block, Tet(v, p, r, s));
+            added(later, Tet(v, p, q, r))
         }
     }
 }
@@ -512,8 +417,8 @@ fn fan_block(numbers: &[u16]) -> Block
     requires { ⌜ length (fan (elementOf (now numbers))) ≤ 6 ⌝ }
     ensures { λ r. ⌜ BlockIs r (inOrder (fan (elementOf (now (numbers .entry))))) ⌝ }
 {
-    let solid = solid_in(numbers);
-    let low = corner(numbers, lowest_place(numbers));
+    let solid = records::solid_of(records::kind_of(numbers));
+    let low = vertex_at(numbers, lowest_place(numbers));
     let mut block = no_tets();
     let mut i = solids::face_count(solid);
     while 0 < i {
@@ -530,7 +435,7 @@ pub fn block_of(numbers: &[u16]) -> Block
     requires { ⌜ Whole (now numbers) ⌝ }
     ensures { λ r. ⌜ BlockIs r (cut (elementOf (now (numbers .entry)))) ⌝ }
 {
-    if kind_of(numbers) == 8 {
+    if records::kind_of(numbers) == 8 {
         return row_block(numbers);
     }
     fan_block(numbers)

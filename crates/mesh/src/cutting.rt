@@ -7,36 +7,23 @@ ghost use Prim.Native.Nat.{_+_, _*_, _≤_};
 ghost use lib.ListN.{length, take};
 ghost use Rattle.laws.specs.Lent.{laid, placed};
 ghost use Rattle.solids.specs.Cut.{cut, cutMesh};
-ghost use Rattle.records.specs.Record.{width, elementOf, recordAt, firstElements};
+ghost use Rattle.records.specs.Record.{elementOf, firstElements};
 ghost use Rattle.records.specs.Loops.{Whole, WholeTable};
 ghost use Rattle.mesh.specs.Cutting.{tetWidth, flat};
 ghost use Rattle.mesh.specs.BlockLoops.{tetOf, Stored, Counted};
 
-// How many numbers a record has.
-const RECORD: usize = 9;
-
 // How many numbers a tetrahedron of the output has.
 const TET: usize = 4;
-
-// The record k, from 0, of a table.
-fn record_at(table: &[u16], k: usize) -> &[u16]
-    requires { ⌜ width * (k + 1) ≤ length (now table) ⌝ }
-    ensures { λ r. ⌜ now r ≡ recordAt (now (table .entry)) k ⌝ }
-{
-    let start = RECORD * k;
-    let end = start + RECORD;
-    &table[start..end]
-}
 
 // A tetrahedron's four numbers, from an index on.
 fn put_tet(out: &mut [u16], at: usize, t: Tet)
     requires { ⌜ at + tetWidth ≤ length (now out) ⌝ }
     ensures { λ _. ⌜ now (out .exit) ≡ placed (now (out .entry)) at (flat (tetOf t ∷ [])) ⌝ }
 {
-    out[at] = t.a.0;
-    out[at + 1] = t.b.0;
-    out[at + 2] = t.c.0;
-    out[at + 3] = t.d.0;
+    out[at] = t.0.0;
+    out[at + 1] = t.1.0;
+    out[at + 2] = t.2.0;
+    out[at + 3] = t.3.0;
 }
 
 // The first n of six tetrahedra, from an index on.
@@ -74,7 +61,7 @@ pub fn count_all(table: &[u16], n: usize) -> usize
     let mut count = 0;
     let mut k = 0;
     while k < n {
-        let block = blocks::block_of(record_at(table, k));
+        let block = blocks::block_of(records::record_at(table, k));
         count += block.count;
         k += 1;
     }
@@ -90,7 +77,7 @@ pub fn cut_all(table: &[u16], n: usize, out: &mut [u16])
     let mut count = 0;
     let mut k = 0;
     while k < n {
-        let more = put_element(record_at(table, k), out, TET * count);
+        let more = put_element(records::record_at(table, k), out, TET * count);
         count += more;
         k += 1;
     }

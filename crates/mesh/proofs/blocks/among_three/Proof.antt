@@ -1,21 +1,16 @@
 -- The tests are those of the definition, in its order.
 -- Assumes nothing.
 use mathlib.Core.Bool.{or-false}
-use borrow.Author.Tests.{eq-eqb, ne-eqb, lt-ltb, le-ltb}
+use borrow.Author.Tests.{eq-eqb, ne-eqb}
 use Rattle.mesh.proofs.blocks.among_three.Statement.{statement}
 use Rattle.mesh.proofs.blocks.among_three.Tie as tie
-use Rattle.mesh.proofs.blocks.among_three.Reads as reads
-use Rattle.mesh.proofs.blocks.among_three.Lts as lts
 
--- src/blocks.rt:267:9
 returns : tie.Need-returns
 returns c = simp (eq-eqb _ _ (c .if1 .taken))
 
--- src/blocks.rt:270:9
 returns-2 : tie.Need-returns-2
 returns-2 c = simp (ne-eqb _ _ (c .before .before .before .if1 .left), eq-eqb _ _ (c .if2 .taken))
 
--- src/blocks.rt:263:1
 returns-3 : tie.Need-returns-3
 returns-3 c = simp (ne-eqb _ _ (c .before .before .before .before .before .if1 .left), ne-eqb _ _ (c .before .before .if2 .left), or-false)
 

@@ -53,10 +53,10 @@ sub-i : tie.Need-sub-i Inv-loop μ-loop
 sub-i c = omega arith
 
 face-of-requires : tie.Need-face-of-requires Inv-loop μ-loop
-face-of-requires c κs = c .before .before .before .pre .0
+face-of-requires c κs = search needs
 
 with-bit-requires : tie.Need-with-bit-requires Inv-loop μ-loop
-with-bit-requires c κs = few (c .before .before .loop .inv) (c .before .before .before .before .pre .1)
+with-bit-requires c κs = few (c .before .before .loop .inv) (c .before .before .before .before .pre)
 
 loop-less : tie.Need-loop-less Inv-loop μ-loop
 loop-less c = omega arith
@@ -66,8 +66,10 @@ loop-again c = step (c .before .before .before .loop .inv) (c .before .before .l
 
 returns : tie.Need-returns Inv-loop μ-loop
 returns c =
+    let a = c .before .before .before .args in
     let z : c .before .loop .i ≡ 0 = omega arith in
-    c .before .loop .inv .same ∙ ap (λ (i : ℕ). choice (c .before .before .before .args .low .0) (c .before .before .before .args .high .0) (drop i (facesIn (usedOf (now (c .before .before .before .args .numbers)))))) z
+    let fs = facesIn (usedOf (now (a .numbers))) in
+    c .before .loop .inv .same ∙ ap (λ (i : ℕ). choice (a .low .0) (a .high .0) (drop i fs)) z
 
 pub diagonals-spec : {M : Type 1} → statement M
 diagonals-spec =

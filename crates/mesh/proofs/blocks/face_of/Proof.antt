@@ -1,6 +1,6 @@
 -- The places of the face, each looked up in the record.
 -- Assumes nothing.
-use mathlib.Core.Path.{_≡_, refl, sym, ap, _∙_}
+use mathlib.Core.Path.{ap, _∙_}
 use denote.Ref.{now}
 use Rattle.solids.specs.Solids.{at}
 use Rattle.records.specs.Record.{usedOf}
@@ -8,68 +8,62 @@ use Rattle.mesh.proofs.FaceLaws.{read-three, read-four}
 use borrow.Author.Needs.{needs}
 use Rattle.mesh.proofs.blocks.face_of.Statement.{statement}
 use Rattle.mesh.proofs.blocks.face_of.Tie as tie
-use Rattle.mesh.proofs.blocks.face_of.Reads as reads
-use Rattle.mesh.proofs.blocks.face_of.Lts as lts
-use Rattle.mesh.proofs.blocks.corner.Reads as corner-reads
-use Rattle.solids.proofs.face_place.Reads as face-place-reads
 
--- src/blocks.rt:252:29
 face-place-requires : tie.Need-face-place-requires
 face-place-requires c κs = search needs
 
--- src/blocks.rt:252:9
-corner-requires : tie.Need-corner-requires
-corner-requires c κs = search needs
+vertex-at-requires : tie.Need-vertex-at-requires
+vertex-at-requires c κs = search needs
 
--- src/blocks.rt:253:29
 face-place-requires-2 : tie.Need-face-place-requires-2
 face-place-requires-2 c κs = search needs
 
--- src/blocks.rt:253:9
-corner-requires-2 : tie.Need-corner-requires-2
-corner-requires-2 c κs = search needs
+vertex-at-requires-2 : tie.Need-vertex-at-requires-2
+vertex-at-requires-2 c κs = search needs
 
--- src/blocks.rt:254:29
 face-place-requires-3 : tie.Need-face-place-requires-3
 face-place-requires-3 c κs = search needs
 
--- src/blocks.rt:254:9
-corner-requires-3 : tie.Need-corner-requires-3
-corner-requires-3 c κs = search needs
+vertex-at-requires-3 : tie.Need-vertex-at-requires-3
+vertex-at-requires-3 c κs = search needs
 
--- src/blocks.rt:255:9
 face-place-requires-4 : tie.Need-face-place-requires-4
 face-place-requires-4 c κs = search needs
 
--- src/blocks.rt:257:9
 returns : tie.Need-returns
 returns c =
-    let vs = usedOf (now (c .before .before .before .before .before .before .before .before .before .before .args .numbers)) in
-    read-three (c .before .before .before .before .before .before .before .before .before .before .args .solid) vs (c .before .before .before .before .before .before .before .before .before .before .args .i) (c .before .before .before .before .before .before .before .corner .ensures ∙ ap (at vs) (c .before .before .before .before .before .before .before .before .face-place .ensures)) (c .before .before .before .before .before .corner2 .ensures ∙ ap (at vs) (c .before .before .before .before .before .before .face-place2 .ensures))
-    (c .before .before .before .corner3 .ensures ∙ ap (at vs) (c .before .before .before .before .face-place3 .ensures)) (c .before .before .face-place4 .ensures) (c .if1 .taken)
+    let a = c .before .before .before .before .before .before .before .before .before .before .args in
+    let vs = usedOf (now (a .numbers)) in
+    let p = c .before .before .before .before .before .before .before .vertex-at .ensures ∙ ap (at vs) (c .before .before .before .before .before .before .before .before .face-place .ensures) in
+    let q = c .before .before .before .before .before .vertex-at2 .ensures ∙ ap (at vs) (c .before .before .before .before .before .before .face-place2 .ensures) in
+    let r = c .before .before .before .vertex-at3 .ensures ∙ ap (at vs) (c .before .before .before .before .face-place3 .ensures) in
+    read-three (a .solid) vs (a .i) p q r (c .before .before .face-place4 .ensures) (c .if1 .taken)
 
--- src/blocks.rt:259:25
-corner-requires-4 : tie.Need-corner-requires-4
-corner-requires-4 c κs = search needs
+vertex-at-requires-4 : tie.Need-vertex-at-requires-4
+vertex-at-requires-4 c κs = search needs
 
--- src/blocks.rt:248:1
 returns-2 : tie.Need-returns-2
 returns-2 c =
-    let vs = usedOf (now (c .before .before .before .before .before .before .before .before .before .before .before .args .numbers)) in
-    read-four (c .before .before .before .before .before .before .before .before .before .before .before .args .solid) vs (c .before .before .before .before .before .before .before .before .before .before .before .args .i) (c .before .before .before .before .before .before .before .before .corner .ensures ∙ ap (at vs) (c .before .before .before .before .before .before .before .before .before .face-place .ensures)) (c .before .before .before .before .before .before .corner2 .ensures ∙ ap (at vs) (c .before .before .before .before .before .before .before .face-place2 .ensures))
-    (c .before .before .before .before .corner3 .ensures ∙ ap (at vs) (c .before .before .before .before .before .face-place3 .ensures)) (c .before .before .before .face-place4 .ensures) (c .before .if1 .left) (c .corner4 .ensures ∙ ap (at vs) (c .before .before .before .face-place4 .ensures))
+    let a = c .before .before .before .before .before .before .before .before .before .before .before .args in
+    let vs = usedOf (now (a .numbers)) in
+    let p = c .before .before .before .before .before .before .before .before .vertex-at .ensures ∙ ap (at vs) (c .before .before .before .before .before .before .before .before .before .face-place .ensures) in
+    let q = c .before .before .before .before .before .before .vertex-at2 .ensures ∙ ap (at vs) (c .before .before .before .before .before .before .before .face-place2 .ensures) in
+    let r = c .before .before .before .before .vertex-at3 .ensures ∙ ap (at vs) (c .before .before .before .before .before .face-place3 .ensures) in
+    let l = c .before .before .before .face-place4 .ensures in
+    let x = c .vertex-at4 .ensures ∙ ap (at vs) l in
+    read-four (a .solid) vs (a .i) p q r l (c .before .if1 .left) x
 
 pub face-of-spec : {M : Type 1} → statement M
 face-of-spec =
     tie.close
     (tie.spec
     face-place-requires
-    corner-requires
+    vertex-at-requires
     face-place-requires-2
-    corner-requires-2
+    vertex-at-requires-2
     face-place-requires-3
-    corner-requires-3
+    vertex-at-requires-3
     face-place-requires-4
     returns
-    corner-requires-4
+    vertex-at-requires-4
     returns-2)

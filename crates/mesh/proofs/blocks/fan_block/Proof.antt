@@ -1,7 +1,7 @@
 -- The loop goes from the last face to the first; it keeps the tetrahedra of the faces behind it in order.
 -- Assumes nothing.
-use mathlib.Core.Path.{_≡_, refl, sym, ap, _∙_, subst}
-use mathlib.Core.List.{List, [], _∷_, _++_, map}
+use mathlib.Core.Path.{_≡_, sym, ap, _∙_, subst}
+use mathlib.Core.List.{List, [], _∷_, _++_}
 use Prim.Native.Nat.{ℕ, suc, _+_, _-_, _≤_, _<_}
 use native.Mathlib.Nat.{le-refl}
 use native.Mathlib.Omega.{arith}
@@ -13,10 +13,11 @@ use Rattle.solids.specs.Solids.{Face, Tet, element, faces, faceCount, facesOf, 
 use Rattle.laws.specs.Words.{lowest}
 use Rattle.solids.specs.Cut.{first, fan, inOrder}
 use Rattle.records.specs.Loops.{Whole}
+use Rattle.solids.proofs.CountLaws.{length-inOrder}
 use Rattle.records.specs.Record.{kindOf, usedOf, solidOf, elementOf}
 use Rattle.mesh.specs.declared.blocks.Block.{Block}
 use Rattle.mesh.specs.BlockLoops.{BlockIs, Grown, faceIn, faceTets}
-use Rattle.mesh.proofs.BlockLaws.{length-inOrder, grown-block}
+use Rattle.mesh.proofs.BlockLaws.{grown-block}
 use Rattle.mesh.proofs.FaceLaws.{face-next}
 use Rattle.mesh.proofs.FanLaws.{fanOver, fan-next, fan-drop}
 use Rattle.mesh.proofs.RecordCutLaws.{lowest-corner}
@@ -73,14 +74,17 @@ Inv-loop numbers solid low block₀ i₀ block i = Kept solid (usedOf numbers) (
 abbrev μ-loop : tie.MeasureT-loop
 μ-loop numbers solid low block₀ i₀ block i = i
 
-solid-in-requires : tie.Need-solid-in-requires Inv-loop μ-loop
-solid-in-requires c κs = c .before .pre .0
+kind-of-requires : tie.Need-kind-of-requires Inv-loop μ-loop
+kind-of-requires c κs = search needs
+
+solid-of-requires : tie.Need-solid-of-requires Inv-loop μ-loop
+solid-of-requires c κs = search needs
 
 lowest-place-requires : tie.Need-lowest-place-requires Inv-loop μ-loop
-lowest-place-requires c κs = c .before .before .pre .0
+lowest-place-requires c κs = c .before .before .before .pre .0
 
-corner-requires : tie.Need-corner-requires Inv-loop μ-loop
-corner-requires c κs = c .before .before .before .pre .0
+vertex-at-requires : tie.Need-vertex-at-requires Inv-loop μ-loop
+vertex-at-requires c κs = search needs
 
 no-tets-requires : tie.Need-no-tets-requires Inv-loop μ-loop
 no-tets-requires c κs = search needs
@@ -90,14 +94,14 @@ face-count-requires c κs = search needs
 
 loop-holds : tie.Need-loop-holds Inv-loop μ-loop
 loop-holds c =
-    let r = now (c .before .before .before .before .before .before .args .numbers) in
-    let s = c .before .before .before .before .solid-in .result in
-    let v = c .before .before .corner .result .0 in
+    let r = now (c .before .before .before .before .before .before .before .args .numbers) in
+    let s = c .before .before .before .before .solid-of .result in
+    let v = c .before .before .vertex-at .result .0 in
     let n = c .face-count .result in
-    let e = all r (c .before .before .before .before .before .before .pre .0) (c .before .before .before .before .solid-in .ensures) (c .before .before .before .lowest-place .ensures) (c .before .before .corner .ensures) in
-    let l = ap length e in
+    let hs = c .before .before .before .before .solid-of .ensures ∙ ap solidOf (c .before .before .before .before .before .kind-of .ensures) in
+    let e = ap length (all r (c .before .before .before .before .before .before .before .pre .0) hs (c .before .before .before .lowest-place .ensures) (c .before .before .vertex-at .ensures)) in
     record {
-      few = omega (arith, l, c .before .before .before .before .before .before .pre .1);
+      few = omega (arith, c .before .before .before .before .before .before .before .pre .1);
       up = omega (arith, c .face-count .ensures);
       same = subst (λ fs. BlockIs (c .before .no-tets .result) (inOrder (fanOver v fs))) (sym (none s (usedOf r) n (c .face-count .ensures))) (c .before .no-tets .ensures);
     }
@@ -106,7 +110,7 @@ sub-i : tie.Need-sub-i Inv-loop μ-loop
 sub-i c = omega arith
 
 face-of-requires : tie.Need-face-of-requires Inv-loop μ-loop
-face-of-requires c κs = c .before .before .before .before .before .before .before .before .pre .0
+face-of-requires c κs = search needs
 
 with-face-requires : tie.Need-with-face-requires Inv-loop μ-loop
 with-face-requires c κs = room (c .before .before .loop .inv) (c .before .loop-test .taken) (c .face-of .ensures)
@@ -120,10 +124,11 @@ loop-again c = step (c .before .before .before .loop .inv) (c .before .before .l
 returns : tie.Need-returns Inv-loop μ-loop
 returns c =
     let z : c .before .loop .i ≡ 0 = omega arith in
-    let r = now (c .before .before .before .before .before .before .before .before .args .numbers) in
-    let s = c .before .before .before .before .before .before .solid-in .result in
-    let v = c .before .before .before .before .corner .result .0 in
-    let e = all r (c .before .before .before .before .before .before .before .before .pre .0) (c .before .before .before .before .before .before .solid-in .ensures) (c .before .before .before .before .before .lowest-place .ensures) (c .before .before .before .before .corner .ensures) in
+    let r = now (c .before .before .before .before .before .before .before .before .before .args .numbers) in
+    let s = c .before .before .before .before .before .before .solid-of .result in
+    let v = c .before .before .before .before .vertex-at .result .0 in
+    let hs = c .before .before .before .before .before .before .solid-of .ensures ∙ ap solidOf (c .before .before .before .before .before .before .before .kind-of .ensures) in
+    let e = all r (c .before .before .before .before .before .before .before .before .before .pre .0) hs (c .before .before .before .before .before .lowest-place .ensures) (c .before .before .before .before .vertex-at .ensures) in
     subst (λ ts. BlockIs (c .before .loop .block) (inOrder ts)) (ap (λ (i : ℕ). from s (usedOf r) v i) z ∙ e) (c .before .loop .inv .same)
 
 pub fan-block-spec : {M : Type 1} → statement M
@@ -132,9 +137,10 @@ fan-block-spec =
     (tie.spec
     Inv-loop
     μ-loop
-    solid-in-requires
+    kind-of-requires
+    solid-of-requires
     lowest-place-requires
-    corner-requires
+    vertex-at-requires
     no-tets-requires
     face-count-requires
     loop-holds

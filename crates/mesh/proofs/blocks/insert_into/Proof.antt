@@ -4,12 +4,12 @@ use mathlib.Core.Path.{_≡_, refl, sym, ap, _∙_}
 use mathlib.Core.Bool.{Bool, true, false, _||_}
 use mathlib.Core.List.{List, map}
 use mathlib.Core.Logic.{⊎-elim}
-use Prim.Native.Nat.{ℕ, suc, _+_, _-_, _≤_, _<_}
+use Prim.Native.Nat.{ℕ, _+_, _-_, _≤_, _<_}
 use native.Mathlib.Numerals.{add-one}
 use native.Mathlib.Omega.{arith}
 use borrow.Author.Needs.{needs}
 use lib.ListN.{length, take, getD, set, length-set}
-use Rattle.solids.specs.Solids.{Tet, ofTet}
+use Rattle.solids.specs.Solids.{ofTet}
 use Rattle.solids.specs.Cut.{upTo, insert}
 use Rattle.mesh.specs.declared.blocks.Tet as code
 use Rattle.mesh.specs.BlockLoops.{tetOf}

@@ -1,38 +1,28 @@
 -- Each kind of face by its own corners.
 -- Assumes nothing.
-use borrow.Author.Tests.{eq-eqb, ne-eqb, lt-ltb, le-ltb}
+use borrow.Author.Tests.{eq-eqb, ne-eqb}
 use borrow.Author.Needs.{needs}
 use Rattle.mesh.proofs.blocks.is_corner.Statement.{statement}
 use Rattle.mesh.proofs.blocks.is_corner.Tie as tie
-use Rattle.mesh.proofs.blocks.is_corner.Reads as reads
-use Rattle.mesh.proofs.blocks.is_corner.Lts as lts
-use Rattle.mesh.proofs.blocks.among_three.Reads as among-three-reads
 
--- src/blocks.rt:280:21
 enum-known-face : tie.Need-enum-known-face
 enum-known-face c = search needs
 
--- src/blocks.rt:280:33
 among-three-requires : tie.Need-among-three-requires
 among-three-requires c κs = search needs
 
--- src/blocks.rt:281:20
 enum-known-face-2 : tie.Need-enum-known-face-2
 enum-known-face-2 c = search needs
 
--- src/blocks.rt:283:17
 returns : tie.Need-returns
 returns c = rw (c .before .before .before .before .face2 .given .1) (simp (eq-eqb _ _ (c .if1 .taken)))
 
--- src/blocks.rt:285:13
 among-three-requires-2 : tie.Need-among-three-requires-2
 among-three-requires-2 c κs = search needs
 
--- src/blocks.rt:276:1
 returns-2 : tie.Need-returns-2
 returns-2 c = rw (c .before .before .face .given .1) (c .among-three .ensures)
 
--- src/blocks.rt:276:1
 returns-3 : tie.Need-returns-3
 returns-3 c = rw (c .before .before .before .before .before .face2 .given .1) (simp (ne-eqb _ _ (c .before .if1 .left)) (c .among-three2 .ensures))
 

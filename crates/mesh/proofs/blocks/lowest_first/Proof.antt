@@ -1,31 +1,21 @@
 -- A triangle stays, a four-cornered face is turned.
 -- Assumes nothing.
-use borrow.Author.Tests.{eq-eqb, ne-eqb, lt-ltb, le-ltb}
-use mathlib.Core.Path.{_≡_, refl, sym, ap, _∙_}
 use borrow.Author.Needs.{needs}
 use Rattle.mesh.proofs.blocks.lowest_first.Statement.{statement}
 use Rattle.mesh.proofs.blocks.lowest_first.Tie as tie
-use Rattle.mesh.proofs.blocks.lowest_first.Reads as reads
-use Rattle.mesh.proofs.blocks.lowest_first.Lts as lts
-use Rattle.mesh.proofs.blocks.turned_face.Reads as turned-face-reads
 
--- src/blocks.rt:312:21
 enum-known-face : tie.Need-enum-known-face
 enum-known-face c = search needs
 
--- src/blocks.rt:313:20
 enum-known-face-2 : tie.Need-enum-known-face-2
 enum-known-face-2 c = search needs
 
--- src/blocks.rt:313:35
 turned-face-requires : tie.Need-turned-face-requires
 turned-face-requires c κs = search needs
 
--- src/blocks.rt:308:1
 returns : tie.Need-returns
 returns c = rw (c .before .face .given .1)
 
--- src/blocks.rt:308:1
 returns-2 : tie.Need-returns-2
 returns-2 c = rw (c .before .before .face2 .given .1) (c .turned-face .ensures)
 

@@ -5,10 +5,7 @@ use native.Mathlib.Omega.{arith}
 use Rattle.mesh.specs.BlockLoops.{tetsIn}
 use Rattle.mesh.proofs.blocks.no_tets.Statement.{statement}
 use Rattle.mesh.proofs.blocks.no_tets.Tie as tie
-use Rattle.mesh.proofs.blocks.no_tets.Reads as reads
-use Rattle.mesh.proofs.blocks.no_tets.Lts as lts
 
--- src/blocks.rt:161:1
 returns : tie.Need-returns
 unfolding tetsIn
 returns c = record { few = omega arith; many = refl; same = refl }

@@ -1,29 +1,22 @@
 -- A four-cornered face by its first and third corner.
 -- Assumes nothing.
-use borrow.Author.Tests.{eq-eqb, ne-eqb, lt-ltb, le-ltb}
+use borrow.Author.Tests.{eq-eqb, ne-eqb}
 use borrow.Author.Needs.{needs}
 use Rattle.mesh.proofs.blocks.on_diagonal.Statement.{statement}
 use Rattle.mesh.proofs.blocks.on_diagonal.Tie as tie
-use Rattle.mesh.proofs.blocks.on_diagonal.Reads as reads
-use Rattle.mesh.proofs.blocks.on_diagonal.Lts as lts
 
--- src/blocks.rt:322:33
 enum-told : tie.Need-enum-told
 enum-told c = search needs
 
--- src/blocks.rt:323:20
 enum-known-face : tie.Need-enum-known-face
 enum-known-face c = search needs
 
--- src/blocks.rt:325:17
 returns : tie.Need-returns
 returns c = rw (c .before .before .before .before .face .given .1) (simp (eq-eqb _ _ (c .if1 .taken)))
 
--- src/blocks.rt:318:1
 returns-2 : tie.Need-returns-2
 returns-2 c = search needs
 
--- src/blocks.rt:318:1
 returns-3 : tie.Need-returns-3
 returns-3 c = rw (c .before .before .before .before .before .before .face .given .1) (simp (ne-eqb _ _ (c .before .before .if1 .left)))
 

@@ -8,22 +8,17 @@ use Rattle.solids.specs.Solids.{at}
 use borrow.Author.Needs.{needs}
 use Rattle.mesh.proofs.blocks.opposite_place.Statement.{statement}
 use Rattle.mesh.proofs.blocks.opposite_place.Tie as tie
-use Rattle.mesh.proofs.blocks.opposite_place.Reads as reads
-use Rattle.mesh.proofs.blocks.opposite_place.Lts as lts
 
 from-one : (vs : List ℕ) (p : ℕ) → getD (0 ∷ vs) p 0 ≡ at vs p
 from-one vs zero = refl
 from-one vs (suc i) = refl
 
--- src/blocks.rt:243:13
 cast-i : tie.Need-cast-i
 cast-i c = search needs
 
--- src/blocks.rt:244:11
 array-read-t6 : tie.Need-array-read-t6
 array-read-t6 c = search needs
 
--- src/blocks.rt:239:1
 returns : tie.Need-returns
 returns c = from-one _ (c .before .args .place .0)
 

@@ -1,12 +1,11 @@
 -- The loop goes from the last tetrahedron of the row to the first; it keeps those behind it in order.
 -- Assumes nothing.
-use mathlib.Core.Path.{_≡_, refl, sym, ap, _∙_, subst}
+use mathlib.Core.Path.{_≡_, sym, ap, _∙_, subst}
 use mathlib.Core.List.{List, _++_}
 use Prim.Native.Nat.{ℕ, suc, _+_, _-_, _≤_, _<_}
 use native.Mathlib.Omega.{arith}
 use denote.Ref.{now}
 use borrow.Author.Needs.{needs}
-use lib.ListN.{length}
 use Rattle.solids.specs.Cut.{inOrder}
 use Rattle.solids.specs.Rows.{rowOf, cutByRow}
 use Rattle.records.specs.Record.{usedOf}
@@ -67,7 +66,7 @@ sub-k : tie.Need-sub-k Inv-loop μ-loop
 sub-k c = omega arith
 
 with-row-tet-requires : tie.Need-with-row-tet-requires Inv-loop μ-loop
-with-row-tet-requires c κs = (c .before .before .before .before .before .pre .0, (omega (arith, c .before .loop .inv .room), omega (arith, c .before .loop .inv .room)))
+with-row-tet-requires c κs = (omega (arith, c .before .loop .inv .room), omega (arith, c .before .loop .inv .room))
 
 loop-less : tie.Need-loop-less Inv-loop μ-loop
 loop-less c = omega arith

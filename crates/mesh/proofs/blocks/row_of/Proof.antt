@@ -1,6 +1,6 @@
 -- The place of the lowest corner and the choice of its far diagonals make the row's number.
 -- Assumes nothing.
-use mathlib.Core.Path.{_≡_, sym, ap, _∙_}
+use mathlib.Core.Path.{_≡_, ap, _∙_}
 use mathlib.Core.List.{List}
 use Prim.Native.Nat.{ℕ, _+_, _*_, _-_, _≤_}
 use native.Mathlib.Omega.{arith}
@@ -16,12 +16,6 @@ use Rattle.mesh.proofs.RecordCutLaws.{first-place, lowest-corner, choic
 use borrow.Author.Needs.{needs}
 use Rattle.mesh.proofs.blocks.row_of.Statement.{statement}
 use Rattle.mesh.proofs.blocks.row_of.Tie as tie
-use Rattle.mesh.proofs.blocks.row_of.Reads as reads
-use Rattle.mesh.proofs.blocks.row_of.Lts as lts
-use Rattle.mesh.proofs.blocks.corner.Reads as corner-reads
-use Rattle.mesh.proofs.blocks.diagonals.Reads as diagonals-reads
-use Rattle.mesh.proofs.blocks.lowest_place.Reads as lowest-place-reads
-use Rattle.mesh.proofs.blocks.opposite_place.Reads as opposite-place-reads
 
 module _ (r : List ℕ) (w : Whole r) (e : kindOf r ≡ 8) {p o low high : ℕ}
     (hp : p ≡ first (usedOf r)) (hl : low ≡ at (usedOf r) p) (ho : o ≡ opposite p) (hh : high ≡ at (usedOf r) o) where
@@ -34,61 +28,55 @@ module _ (r : List ℕ) (w : Whole r) (e : kindOf r ≡ 8) {p o low high : ℕ}
   row : {n : ℕ} → n ≡ choice low high (facesOf (element Hexahedron (usedOf r))) → 8 * (p - 1) + n ≡ rowOf (usedOf r)
   row hn = λ i. 8 * (hp i - 1) + (hn ∙ chosen) i
 
--- src/blocks.rt:375:9
 lowest-place-requires : tie.Need-lowest-place-requires
 lowest-place-requires c κs = search needs
 
--- src/blocks.rt:376:9
-corner-requires : tie.Need-corner-requires
-corner-requires c κs = search needs
+vertex-at-requires : tie.Need-vertex-at-requires
+vertex-at-requires c κs = search needs
 
--- src/blocks.rt:377:32
 opposite-place-requires : tie.Need-opposite-place-requires
 opposite-place-requires c κs = omega (arith, c .before .lowest-place .ensures, first-place (now (c .before .before .before .args .numbers)) (c .before .before .before .pre .0))
 
--- src/blocks.rt:377:9
-corner-requires-2 : tie.Need-corner-requires-2
-corner-requires-2 c κs = search needs
+vertex-at-requires-2 : tie.Need-vertex-at-requires-2
+vertex-at-requires-2 c κs = search needs
 
--- src/blocks.rt:378:9
 diagonals-requires : tie.Need-diagonals-requires
 diagonals-requires c κs =
-    let p = c .before .before .before .before .before .pre in
-    (p .0, few (now (c .before .before .before .before .before .args .numbers)) (p .0) (p .1) (c .before .before .before .lowest-place .ensures) (c .before .before .corner .ensures) (c .before .opposite-place .ensures) (c .corner2 .ensures))
+    let w = c .before .before .before .before .before .pre in
+    few (now (c .before .before .before .before .before .args .numbers)) (w .0) (w .1) (c .before .before .before .lowest-place .ensures) (c .before .before .vertex-at .ensures)
+    (c .before .opposite-place .ensures) (c .vertex-at2 .ensures)
 
--- src/blocks.rt:379:10
 cast-result : tie.Need-cast-result
 cast-result c = search needs
 
--- src/blocks.rt:379:10
 sub-result : tie.Need-sub-result
 sub-result c = omega (arith, c .before .before .before .before .before .lowest-place .ensures, first-place (now (c .before .before .before .before .before .before .before .args .numbers)) (c .before .before .before .before .before .before .before .pre .0))
 
--- src/blocks.rt:379:5
 mul-result : tie.Need-mul-result
 mul-result c = search needs
 
--- src/blocks.rt:379:5
 add-result : tie.Need-add-result
 add-result c =
-    let p = c .before .before .before .before .before .before .before .pre in
-    let m = few (now (c .before .before .before .before .before .before .before .args .numbers)) (p .0) (p .1) (c .before .before .before .before .before .lowest-place .ensures) (c .before .before .before .before .corner .ensures) (c .before .before .before .opposite-place .ensures) (c .before .before .corner2 .ensures) in
-    omega (arith, c .before .diagonals .ensures, c .before .before .before .before .before .lowest-place .ensures, first-place (now (c .before .before .before .before .before .before .before .args .numbers)) (p .0))
+    let r = now (c .before .before .before .before .before .before .before .args .numbers) in
+    let w = c .before .before .before .before .before .before .before .pre in
+    let p = c .before .before .before .before .before .lowest-place .ensures in
+    let m = few r (w .0) (w .1) p (c .before .before .before .before .vertex-at .ensures) (c .before .before .before .opposite-place .ensures) (c .before .before .vertex-at2 .ensures) in
+    omega (arith, c .before .diagonals .ensures, first-place r (w .0))
 
--- src/blocks.rt:370:1
 returns : tie.Need-returns
 returns c =
-    let p = c .before .before .before .before .before .before .before .pre in
-    row (now (c .before .before .before .before .before .before .before .args .numbers)) (p .0) (p .1) (c .before .before .before .before .before .lowest-place .ensures) (c .before .before .before .before .corner .ensures) (c .before .before .before .opposite-place .ensures) (c .before .before .corner2 .ensures) (c .before .diagonals .ensures)
+    let w = c .before .before .before .before .before .before .before .pre in
+    row (now (c .before .before .before .before .before .before .before .args .numbers)) (w .0) (w .1) (c .before .before .before .before .before .lowest-place .ensures) (c .before .before .before .before .vertex-at .ensures)
+    (c .before .before .before .opposite-place .ensures) (c .before .before .vertex-at2 .ensures) (c .before .diagonals .ensures)
 
 pub row-of-spec : {M : Type 1} → statement M
 row-of-spec =
     tie.close
     (tie.spec
     lowest-place-requires
-    corner-requires
+    vertex-at-requires
     opposite-place-requires
-    corner-requires-2
+    vertex-at-requires-2
     diagonals-requires
     cast-result
     sub-result

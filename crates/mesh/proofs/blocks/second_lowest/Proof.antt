@@ -1,29 +1,27 @@
 -- The tests are those of the definition, in its order.
 -- Assumes nothing.
-use mathlib.Core.Path.{_≡_, refl, sym, ap, _∙_}
-use borrow.Author.Tests.{eq-eqb, ne-eqb, lt-ltb, le-ltb}
 use borrow.Author.Needs.{needs}
+use Rattle.mesh.proofs.LowestLaws.{is-lowest, not-lowest}
 use Rattle.mesh.proofs.blocks.second_lowest.Statement.{statement}
 use Rattle.mesh.proofs.blocks.second_lowest.Tie as tie
-use Rattle.mesh.proofs.blocks.second_lowest.Reads as reads
-use Rattle.mesh.proofs.blocks.second_lowest.Lts as lts
-use Rattle.mesh.proofs.blocks.lowest_of_three.Reads as lowest-of-three-reads
 
--- src/blocks.rt:74:9
 lowest-of-three-requires : tie.Need-lowest-of-three-requires
 lowest-of-three-requires c κs = search needs
 
--- src/blocks.rt:76:9
 returns : tie.Need-returns
-returns c = simp (eq-eqb _ _ (c .if1 .taken ∙ c .before .before .before .lowest-of-three .ensures))
+returns c =
+    let m = c .before .before .before .lowest-of-three .ensures in
+    simp (is-lowest (c .if1 .taken) m)
 
--- src/blocks.rt:79:9
 returns-2 : tie.Need-returns-2
-returns-2 c = simp (ne-eqb _ _ (λ e. c .before .before .before .if1 .left (e ∙ sym (c .before .before .before .before .before .before .lowest-of-three .ensures))), eq-eqb _ _ (c .if2 .taken ∙ c .before .before .before .before .before .before .lowest-of-three .ensures))
+returns-2 c =
+    let m = c .before .before .before .before .before .before .lowest-of-three .ensures in
+    simp (not-lowest (c .before .before .before .if1 .left) m, is-lowest (c .if2 .taken) m)
 
--- src/blocks.rt:67:1
 returns-3 : tie.Need-returns-3
-returns-3 c = simp (ne-eqb _ _ (λ e. c .before .before .before .if1 .left (e ∙ sym (c .before .before .before .before .before .before .lowest-of-three .ensures))), ne-eqb _ _ (λ e. c .if2 .left (e ∙ sym (c .before .before .before .before .before .before .lowest-of-three .ensures))))
+returns-3 c =
+    let m = c .before .before .before .before .before .before .lowest-of-three .ensures in
+    simp (not-lowest (c .before .before .before .if1 .left) m, not-lowest (c .if2 .left) m)
 
 pub second-lowest-spec : {M : Type 1} → statement M
 second-lowest-spec = tie.close (tie.spec lowest-of-three-requires returns returns-2 returns-3)

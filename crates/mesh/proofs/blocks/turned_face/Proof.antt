@@ -1,33 +1,32 @@
 -- The tests are those of the definition, in its order.
 -- Assumes nothing.
-use mathlib.Core.Path.{_≡_, refl, sym, ap, _∙_}
-use borrow.Author.Tests.{eq-eqb, ne-eqb, lt-ltb, le-ltb}
 use borrow.Author.Needs.{needs}
+use Rattle.mesh.proofs.LowestLaws.{is-lowest, not-lowest}
 use Rattle.mesh.proofs.blocks.turned_face.Statement.{statement}
 use Rattle.mesh.proofs.blocks.turned_face.Tie as tie
-use Rattle.mesh.proofs.blocks.turned_face.Reads as reads
-use Rattle.mesh.proofs.blocks.turned_face.Lts as lts
-use Rattle.mesh.proofs.blocks.lowest_of_four.Reads as lowest-of-four-reads
 
--- src/blocks.rt:301:9
 lowest-of-four-requires : tie.Need-lowest-of-four-requires
 lowest-of-four-requires c κs = search needs
 
--- src/blocks.rt:303:9
 returns : tie.Need-returns
-returns c = simp (eq-eqb _ _ (c .if1 .taken ∙ c .before .before .before .lowest-of-four .ensures))
+returns c =
+    let m = c .before .before .before .lowest-of-four .ensures in
+    simp (is-lowest (c .if1 .taken) m)
 
--- src/blocks.rt:306:9
 returns-2 : tie.Need-returns-2
-returns-2 c = simp (ne-eqb _ _ (λ e. c .before .before .before .if1 .left (e ∙ sym (c .before .before .before .before .before .before .lowest-of-four .ensures))), eq-eqb _ _ (c .if2 .taken ∙ c .before .before .before .before .before .before .lowest-of-four .ensures))
+returns-2 c =
+    let m = c .before .before .before .before .before .before .lowest-of-four .ensures in
+    simp (not-lowest (c .before .before .before .if1 .left) m, is-lowest (c .if2 .taken) m)
 
--- src/blocks.rt:309:9
 returns-3 : tie.Need-returns-3
-returns-3 c = simp (ne-eqb _ _ (λ e. c .before .before .before .before .before .before .if1 .left (e ∙ sym (c .before .before .before .before .before .before .before .before .before .lowest-of-four .ensures))), ne-eqb _ _ (λ e. c .before .before .before .if2 .left (e ∙ sym (c .before .before .before .before .before .before .before .before .before .lowest-of-four .ensures))), eq-eqb _ _ (c .if3 .taken ∙ c .before .before .before .before .before .before .before .before .before .lowest-of-four .ensures))
+returns-3 c =
+    let m = c .before .before .before .before .before .before .before .before .before .lowest-of-four .ensures in
+    simp (not-lowest (c .before .before .before .before .before .before .if1 .left) m, not-lowest (c .before .before .before .if2 .left) m, is-lowest (c .if3 .taken) m)
 
--- src/blocks.rt:298:1
 returns-4 : tie.Need-returns-4
-returns-4 c = simp (ne-eqb _ _ (λ e. c .before .before .before .before .before .before .if1 .left (e ∙ sym (c .before .before .before .before .before .before .before .before .before .lowest-of-four .ensures))), ne-eqb _ _ (λ e. c .before .before .before .if2 .left (e ∙ sym (c .before .before .before .before .before .before .before .before .before .lowest-of-four .ensures))), ne-eqb _ _ (λ e. c .if3 .left (e ∙ sym (c .before .before .before .before .before .before .before .before .before .lowest-of-four .ensures))))
+returns-4 c =
+    let m = c .before .before .before .before .before .before .before .before .before .lowest-of-four .ensures in
+    simp (not-lowest (c .before .before .before .before .before .before .if1 .left) m, not-lowest (c .before .before .before .if2 .left) m, not-lowest (c .if3 .left) m)
 
 pub turned-face-spec : {M : Type 1} → statement M
 turned-face-spec =

@@ -4,7 +4,7 @@ use mathlib.Core.Path.{_≡_, refl, sym, _∙_}
 use mathlib.Core.Bool.{Bool, true, false, cond}
 use mathlib.Core.List.{List, [], _∷_}
 use mathlib.Core.Logic.{_≢_}
-use Prim.Native.Nat.{ℕ, _≤_, _<_}
+use Prim.Native.Nat.{ℕ}
 use native.Mathlib.Omega.{arith}
 use lib.Dec.{ltb, leb}
 use borrow.Author.Tests.{eq-eqb, ne-eqb, lt-ltb, le-ltb, le-leb, lt-leb}
@@ -37,32 +37,32 @@ last x y = go (three x y)
 
 -- the numbers of a tetrahedron from the fourth, the third and the second on
 abbrev from-d : Tet → List ℕ
-from-d t = t .d .0 ∷ []
+from-d t = t .3 .0 ∷ []
 
 abbrev from-c : Tet → List ℕ
-from-c t = t .c .0 ∷ from-d t
+from-c t = t .2 .0 ∷ from-d t
 
 abbrev from-b : Tet → List ℕ
-from-b t = t .b .0 ∷ from-c t
+from-b t = t .1 .0 ∷ from-c t
 
 module _ (t u : Tet) where
-  by-a : t .a .0 ≢ u .a .0 → upTo (ofTet (tetOf t)) (ofTet (tetOf u)) ≡ ltb (t .a .0) (u .a .0)
-  by-a = differ (t .a .0) (u .a .0) (from-b t) (from-b u)
+  by-a : t .0 .0 ≢ u .0 .0 → upTo (ofTet (tetOf t)) (ofTet (tetOf u)) ≡ ltb (t .0 .0) (u .0 .0)
+  by-a = differ (t .0 .0) (u .0 .0) (from-b t) (from-b u)
 
-  past-a : t .a .0 ≡ u .a .0 → upTo (ofTet (tetOf t)) (ofTet (tetOf u)) ≡ upTo (from-b t) (from-b u)
-  past-a = agree (t .a .0) (u .a .0) (from-b t) (from-b u)
+  past-a : t .0 .0 ≡ u .0 .0 → upTo (ofTet (tetOf t)) (ofTet (tetOf u)) ≡ upTo (from-b t) (from-b u)
+  past-a = agree (t .0 .0) (u .0 .0) (from-b t) (from-b u)
 
-  by-b : t .b .0 ≢ u .b .0 → upTo (from-b t) (from-b u) ≡ ltb (t .b .0) (u .b .0)
-  by-b = differ (t .b .0) (u .b .0) (from-c t) (from-c u)
+  by-b : t .1 .0 ≢ u .1 .0 → upTo (from-b t) (from-b u) ≡ ltb (t .1 .0) (u .1 .0)
+  by-b = differ (t .1 .0) (u .1 .0) (from-c t) (from-c u)
 
-  past-b : t .b .0 ≡ u .b .0 → upTo (from-b t) (from-b u) ≡ upTo (from-c t) (from-c u)
-  past-b = agree (t .b .0) (u .b .0) (from-c t) (from-c u)
+  past-b : t .1 .0 ≡ u .1 .0 → upTo (from-b t) (from-b u) ≡ upTo (from-c t) (from-c u)
+  past-b = agree (t .1 .0) (u .1 .0) (from-c t) (from-c u)
 
-  by-c : t .c .0 ≢ u .c .0 → upTo (from-c t) (from-c u) ≡ ltb (t .c .0) (u .c .0)
-  by-c = differ (t .c .0) (u .c .0) (from-d t) (from-d u)
+  by-c : t .2 .0 ≢ u .2 .0 → upTo (from-c t) (from-c u) ≡ ltb (t .2 .0) (u .2 .0)
+  by-c = differ (t .2 .0) (u .2 .0) (from-d t) (from-d u)
 
-  past-c : t .c .0 ≡ u .c .0 → upTo (from-c t) (from-c u) ≡ upTo (from-d t) (from-d u)
-  past-c = agree (t .c .0) (u .c .0) (from-d t) (from-d u)
+  past-c : t .2 .0 ≡ u .2 .0 → upTo (from-c t) (from-c u) ≡ upTo (from-d t) (from-d u)
+  past-c = agree (t .2 .0) (u .2 .0) (from-d t) (from-d u)
 
 returns : tie.Need-returns
 returns c = sym (by-a (c .before .before .before .before .before .args .t) (c .before .before .before .before .before .args .u) (c .before .before .if1 .taken))
@@ -83,7 +83,7 @@ returns-4 : tie.Need-returns-4
 returns-4 c =
     let t = c .before .before .before .before .before .before .before .before .before .before .before .args .t in
     let u = c .before .before .before .before .before .before .before .before .before .before .before .args .u in
-    sym (past-a t u (c .before .before .before .before .before .before .before .before .if1 .left) ∙ past-b t u (c .before .before .before .before .before .if2 .left) ∙ past-c t u (c .before .before .if3 .left) ∙ last (t .d .0) (u .d .0))
+    sym (past-a t u (c .before .before .before .before .before .before .before .before .if1 .left) ∙ past-b t u (c .before .before .before .before .before .if2 .left) ∙ past-c t u (c .before .before .if3 .left) ∙ last (t .3 .0) (u .3 .0))
 
 pub up-to-spec : {M : Type 1} → statement M
 up-to-spec = tie.close (tie.spec returns returns-2 returns-3 returns-4)

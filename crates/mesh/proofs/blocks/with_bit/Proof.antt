@@ -1,59 +1,50 @@
 -- Three ways, as the definition has them.
 -- Assumes nothing.
-use mathlib.Core.Path.{_≡_, refl, sym, ap, _∙_}
+use mathlib.Core.Path.{sym, ap, _∙_}
 use Rattle.solids.specs.Cut.{onDiagonal}
 use Rattle.mesh.specs.BlockLoops.{faceOf}
 use Rattle.mesh.proofs.ChoiceLaws.{bit-near, bit-through, bit-beside}
 use borrow.Author.Needs.{needs}
 use Rattle.mesh.proofs.blocks.with_bit.Statement.{statement}
 use Rattle.mesh.proofs.blocks.with_bit.Tie as tie
-use Rattle.mesh.proofs.blocks.with_bit.Reads as reads
-use Rattle.mesh.proofs.blocks.with_bit.Lts as lts
-use Rattle.mesh.proofs.blocks.is_corner.Reads as is-corner-reads
-use Rattle.mesh.proofs.blocks.lowest_first.Reads as lowest-first-reads
-use Rattle.mesh.proofs.blocks.on_diagonal.Reads as on-diagonal-reads
 
--- src/blocks.rt:337:8
 is-corner-requires : tie.Need-is-corner-requires
 is-corner-requires c κs = search needs
 
--- src/blocks.rt:338:9
 returns : tie.Need-returns
-returns c = bit-near (c .before .before .args .low .0) (c .before .before .args .high .0) (faceOf (c .before .before .args .face)) (c .before .before .args .number) (sym (c .before .is-corner .ensures) ∙ c .if1 .taken)
+returns c =
+    let a = c .before .before .args in
+    let near = sym (c .before .is-corner .ensures) ∙ c .if1 .taken in
+    bit-near (a .low .0) (a .high .0) (faceOf (a .face)) (a .number) near
 
--- src/blocks.rt:340:26
 lowest-first-requires : tie.Need-lowest-first-requires
 lowest-first-requires c κs = search needs
 
--- src/blocks.rt:340:8
 on-diagonal-requires : tie.Need-on-diagonal-requires
 on-diagonal-requires c κs = search needs
 
--- src/blocks.rt:341:20
 mul-result : tie.Need-mul-result
 mul-result c = search needs
 
--- src/blocks.rt:341:16
 add-result : tie.Need-add-result
 add-result c = search needs
 
--- src/blocks.rt:341:9
 returns-2 : tie.Need-returns-2
 returns-2 c =
-    let high = c .before .before .before .before .before .args .high .0 in
-    bit-through (c .before .before .before .before .before .args .low .0) high (faceOf (c .before .before .before .before .before .args .face)) (c .before .before .before .before .before .args .number) (sym (c .before .before .before .before .is-corner .ensures) ∙ c .before .before .before .if1 .left)
-    (ap (onDiagonal high) (sym (c .before .before .lowest-first .ensures)) ∙ sym (c .before .on-diagonal .ensures) ∙ c .if2 .taken)
+    let a = c .before .before .before .before .before .args in
+    let far = sym (c .before .before .before .before .is-corner .ensures) ∙ c .before .before .before .if1 .left in
+    let turned = ap (onDiagonal (a .high .0)) (sym (c .before .before .lowest-first .ensures)) in
+    bit-through (a .low .0) (a .high .0) (faceOf (a .face)) (a .number) far (turned ∙ sym (c .before .on-diagonal .ensures) ∙ c .if2 .taken)
 
--- src/blocks.rt:343:5
 mul-result-2 : tie.Need-mul-result-2
 mul-result-2 c = search needs
 
--- src/blocks.rt:333:1
 returns-3 : tie.Need-returns-3
 returns-3 c =
-    let high = c .before .before .before .before .before .args .high .0 in
-    bit-beside (c .before .before .before .before .before .args .low .0) high (faceOf (c .before .before .before .before .before .args .face)) (c .before .before .before .before .before .args .number) (sym (c .before .before .before .before .is-corner .ensures) ∙ c .before .before .before .if1 .left)
-    (ap (onDiagonal high) (sym (c .before .before .lowest-first .ensures)) ∙ sym (c .before .on-diagonal .ensures) ∙ c .if2 .left)
+    let a = c .before .before .before .before .before .args in
+    let far = sym (c .before .before .before .before .is-corner .ensures) ∙ c .before .before .before .if1 .left in
+    let turned = ap (onDiagonal (a .high .0)) (sym (c .before .before .lowest-first .ensures)) in
+    bit-beside (a .low .0) (a .high .0) (faceOf (a .face)) (a .number) far (turned ∙ sym (c .before .on-diagonal .ensures) ∙ c .if2 .left)
 
 pub with-bit-spec : {M : Type 1} → statement M
 with-bit-spec =

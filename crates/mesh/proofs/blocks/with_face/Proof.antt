@@ -11,25 +11,18 @@ use Rattle.mesh.proofs.FanLaws.{near-tets, far-tets}
 use borrow.Author.Needs.{needs}
 use Rattle.mesh.proofs.blocks.with_face.Statement.{statement}
 use Rattle.mesh.proofs.blocks.with_face.Tie as tie
-use Rattle.mesh.proofs.blocks.with_face.Reads as reads
-use Rattle.mesh.proofs.blocks.with_face.Lts as lts
-use Rattle.mesh.proofs.blocks.is_corner.Reads as is-corner-reads
-use Rattle.mesh.proofs.blocks.lowest_first.Reads as lowest-first-reads
-use Rattle.mesh.proofs.blocks.with_triangles.Reads as with-triangles-reads
 
--- src/blocks.rt:454:8
 is-corner-requires : tie.Need-is-corner-requires
 is-corner-requires c κs = search needs
 
--- src/blocks.rt:455:9
 returns : tie.Need-returns
-returns c = rw (near-tets (c .before .before .args .low .0) (faceOf (c .before .before .args .face)) (sym (c .before .is-corner .ensures) ∙ c .if1 .taken)) (grown-none (c .before .before .args .block))
+returns c =
+    let a = c .before .before .args in
+    rw (near-tets (a .low .0) (faceOf (a .face)) (sym (c .before .is-corner .ensures) ∙ c .if1 .taken)) (grown-none (a .block))
 
--- src/blocks.rt:457:32
 lowest-first-requires : tie.Need-lowest-first-requires
 lowest-first-requires c κs = search needs
 
--- src/blocks.rt:457:5
 with-triangles-requires : tie.Need-with-triangles-requires
 with-triangles-requires c κs =
     let low = c .before .before .before .args .low .0 in
@@ -39,7 +32,6 @@ with-triangles-requires c κs =
     ap length far ∙ length-map (cutFace F) (follow low) ∙ ap (λ G. length (halves G)) (sym (c .lowest-first .ensures)) in
     omega (arith, c .before .before .before .pre)
 
--- src/blocks.rt:450:1
 returns-2 : tie.Need-returns-2
 returns-2 c =
     let b = c .before .before .before .before .args .block in

@@ -1,6 +1,6 @@
 -- Four zeros give none, any other four places their tetrahedron.
 -- Assumes nothing.
-use mathlib.Core.Path.{_≡_, sym, ap, _∙_, subst}
+use mathlib.Core.Path.{sym, ap, _∙_, subst}
 use mathlib.Core.List.{[], _∷_}
 use denote.Ref.{now}
 use borrow.Author.Tests.{eq-eqb, ne-eqb}
@@ -11,38 +11,31 @@ use Rattle.mesh.proofs.RowTetLaws.{row-none, row-one}
 use borrow.Author.Needs.{needs}
 use Rattle.mesh.proofs.blocks.with_row_tet.Statement.{statement}
 use Rattle.mesh.proofs.blocks.with_row_tet.Tie as tie
-use Rattle.mesh.proofs.blocks.with_row_tet.Reads as reads
-use Rattle.mesh.proofs.blocks.with_row_tet.Lts as lts
-use Rattle.mesh.proofs.blocks.added.Reads as added-reads
-use Rattle.mesh.proofs.blocks.row_tet.Reads as row-tet-reads
-use Rattle.solids.proofs.row_place.Reads as row-place-reads
 
--- src/blocks.rt:411:36
 mul-row-place : tie.Need-mul-row-place
 mul-row-place c = search needs
 
--- src/blocks.rt:411:9
 row-place-requires : tie.Need-row-place-requires
 row-place-requires c κs = search needs
 
--- src/blocks.rt:413:9
 returns : tie.Need-returns
-returns c = rw (row-none (usedOf (now (c .before .before .before .before .args .numbers))) (c .before .before .before .before .args .row) (c .before .before .before .before .args .k) (eq-eqb _ _ (sym (c .before .before .row-place .ensures) ∙ c .if1 .taken))) (grown-none (c .before .before .before .before .args .block))
+returns c =
+    let a = c .before .before .before .before .args in
+    let zero = sym (c .before .before .row-place .ensures) ∙ c .if1 .taken in
+    rw (row-none (usedOf (now (a .numbers))) (a .row) (a .k) (eq-eqb _ _ zero)) (grown-none (a .block))
 
--- src/blocks.rt:415:18
 row-tet-requires : tie.Need-row-tet-requires
 row-tet-requires c κs = search needs
 
--- src/blocks.rt:415:5
 added-requires : tie.Need-added-requires
 added-requires c κs = search needs
 
--- src/blocks.rt:405:1
 returns-2 : tie.Need-returns-2
 returns-2 c =
-    let b = c .before .before .before .before .before .before .args .block in
-    let one = row-one (usedOf (now (c .before .before .before .before .before .before .args .numbers))) (c .before .before .before .before .before .before .args .row) (c .before .before .before .before .before .before .args .k) (ne-eqb _ _ (λ e. c .before .before .if1 .left (c .before .before .before .before .row-place .ensures ∙ e))) in
-    subst (λ l. Grown b l (c .added .result)) (ap (λ t. t ∷ []) (c .before .row-tet .ensures) ∙ sym one) (c .added .ensures)
+    let a = c .before .before .before .before .before .before .args in
+    let place = c .before .before .before .before .row-place .ensures in
+    let one = row-one (usedOf (now (a .numbers))) (a .row) (a .k) (ne-eqb _ _ (λ e. c .before .before .if1 .left (place ∙ e))) in
+    subst (λ l. Grown (a .block) l (c .added .result)) (ap (λ t. t ∷ []) (c .before .row-tet .ensures) ∙ sym one) (c .added .ensures)
 
 pub with-row-tet-spec : {M : Type 1} → statement M
 with-row-tet-spec =

@@ -1,40 +1,29 @@
 -- A triangle gives one tetrahedron, a turned face its two, the second first.
 -- Assumes nothing.
-use mathlib.Core.Path.{_≡_, refl, sym, ap, _∙_}
 use native.Mathlib.Omega.{arith}
 use Rattle.mesh.proofs.BlockLaws.{grown-twice}
 use borrow.Author.Needs.{needs}
 use Rattle.mesh.proofs.blocks.with_triangles.Statement.{statement}
 use Rattle.mesh.proofs.blocks.with_triangles.Tie as tie
-use Rattle.mesh.proofs.blocks.with_triangles.Reads as reads
-use Rattle.mesh.proofs.blocks.with_triangles.Lts as lts
-use Rattle.mesh.proofs.blocks.added.Reads as added-reads
 
--- src/blocks.rt:441:21
 enum-known-face : tie.Need-enum-known-face
 enum-known-face c = search needs
 
--- src/blocks.rt:441:33
 added-requires : tie.Need-added-requires
 added-requires c κs = let p = rw (c .before .face .given .1) at (c .before .before .before .pre) in omega arith
 
--- src/blocks.rt:442:20
 enum-known-face-2 : tie.Need-enum-known-face-2
 enum-known-face-2 c = search needs
 
--- src/blocks.rt:443:17
 added-requires-2 : tie.Need-added-requires-2
 added-requires-2 c κs = let p = rw (c .before .face2 .given .1) at (c .before .before .before .pre) in omega arith
 
--- src/blocks.rt:444:13
 added-requires-3 : tie.Need-added-requires-3
 added-requires-3 c κs = let p = rw (c .before .before .face2 .given .1) at (c .before .before .before .before .pre) in omega (arith, c .added2 .ensures .many)
 
--- src/blocks.rt:436:1
 returns : tie.Need-returns
 returns c = rw (c .before .before .face .given .1) (c .added .ensures)
 
--- src/blocks.rt:436:1
 returns-2 : tie.Need-returns-2
 returns-2 c = rw (c .before .before .before .face2 .given .1) (grown-twice (c .before .added2 .ensures) (c .added3 .ensures))
 

@@ -1,50 +1,46 @@
 -- The tests are those of the definition, in its order; then the second step.
 -- Assumes nothing.
-use mathlib.Core.Path.{_≡_, refl, sym, ap, _∙_}
-use borrow.Author.Tests.{eq-eqb, ne-eqb, lt-ltb, le-ltb}
 use borrow.Author.Needs.{needs}
+use Rattle.mesh.proofs.LowestLaws.{is-lowest, not-lowest}
 use Rattle.mesh.proofs.blocks.written_form.Statement.{statement}
 use Rattle.mesh.proofs.blocks.written_form.Tie as tie
-use Rattle.mesh.proofs.blocks.written_form.Reads as reads
-use Rattle.mesh.proofs.blocks.written_form.Lts as lts
-use Rattle.mesh.proofs.blocks.lowest_of_four.Reads as lowest-of-four-reads
-use Rattle.mesh.proofs.blocks.second_lowest.Reads as second-lowest-reads
 
--- src/blocks.rt:92:9
 lowest-of-four-requires : tie.Need-lowest-of-four-requires
 lowest-of-four-requires c κs = search needs
 
--- src/blocks.rt:94:9
 second-lowest-requires : tie.Need-second-lowest-requires
 second-lowest-requires c κs = search needs
 
--- src/blocks.rt:94:9
 returns : tie.Need-returns
-returns c = simp (eq-eqb _ _ (c .before .if1 .taken ∙ c .before .before .before .before .lowest-of-four .ensures)) (c .second-lowest .ensures)
+returns c =
+    let m = c .before .before .before .before .lowest-of-four .ensures in
+    simp (is-lowest (c .before .if1 .taken) m) (c .second-lowest .ensures)
 
--- src/blocks.rt:97:9
 second-lowest-requires-2 : tie.Need-second-lowest-requires-2
 second-lowest-requires-2 c κs = search needs
 
--- src/blocks.rt:97:9
 returns-2 : tie.Need-returns-2
-returns-2 c = simp (ne-eqb _ _ (λ e. c .before .before .before .before .if1 .left (e ∙ sym (c .before .before .before .before .before .before .before .lowest-of-four .ensures))), eq-eqb _ _ (c .before .if2 .taken ∙ c .before .before .before .before .before .before .before .lowest-of-four .ensures)) (c .second-lowest2 .ensures)
+returns-2 c =
+    let m = c .before .before .before .before .before .before .before .lowest-of-four .ensures in
+    simp (not-lowest (c .before .before .before .before .if1 .left) m, is-lowest (c .before .if2 .taken) m) (c .second-lowest2 .ensures)
 
--- src/blocks.rt:100:9
 second-lowest-requires-3 : tie.Need-second-lowest-requires-3
 second-lowest-requires-3 c κs = search needs
 
--- src/blocks.rt:100:9
 returns-3 : tie.Need-returns-3
-returns-3 c = simp (ne-eqb _ _ (λ e. c .before .before .before .before .before .before .before .if1 .left (e ∙ sym (c .before .before .before .before .before .before .before .before .before .before .lowest-of-four .ensures))), ne-eqb _ _ (λ e. c .before .before .before .before .if2 .left (e ∙ sym (c .before .before .before .before .before .before .before .before .before .before .lowest-of-four .ensures))), eq-eqb _ _ (c .before .if3 .taken ∙ c .before .before .before .before .before .before .before .before .before .before .lowest-of-four .ensures)) (c .second-lowest3 .ensures)
+returns-3 c =
+    let m = c .before .before .before .before .before .before .before .before .before .before .lowest-of-four .ensures in
+    simp (not-lowest (c .before .before .before .before .before .before .before .if1 .left) m, not-lowest (c .before .before .before .before .if2 .left) m, is-lowest (c .before .if3 .taken) m)
+    (c .second-lowest3 .ensures)
 
--- src/blocks.rt:102:5
 second-lowest-requires-4 : tie.Need-second-lowest-requires-4
 second-lowest-requires-4 c κs = search needs
 
--- src/blocks.rt:85:1
 returns-4 : tie.Need-returns-4
-returns-4 c = simp (ne-eqb _ _ (λ e. c .before .before .before .before .before .before .before .if1 .left (e ∙ sym (c .before .before .before .before .before .before .before .before .before .before .lowest-of-four .ensures))), ne-eqb _ _ (λ e. c .before .before .before .before .if2 .left (e ∙ sym (c .before .before .before .before .before .before .before .before .before .before .lowest-of-four .ensures))), ne-eqb _ _ (λ e. c .before .if3 .left (e ∙ sym (c .before .before .before .before .before .before .before .before .before .before .lowest-of-four .ensures)))) (c .second-lowest4 .ensures)
+returns-4 c =
+    let m = c .before .before .before .before .before .before .before .before .before .before .lowest-of-four .ensures in
+    simp (not-lowest (c .before .before .before .before .before .before .before .if1 .left) m, not-lowest (c .before .before .before .before .if2 .left) m, not-lowest (c .before .if3 .left) m)
+    (c .second-lowest4 .ensures)
 
 pub written-form-spec : {M : Type 1} → statement M
 written-form-spec =

@@ -1,17 +1,16 @@
 -- The loop keeps the count of the elements before k.
 -- Assumes nothing.
-use mathlib.Core.Path.{_≡_, refl, sym, ap, _∙_, subst}
+use mathlib.Core.Path.{_≡_, sym, ap, _∙_, subst}
 use mathlib.Core.List.{List}
 use Prim.Native.Nat.{ℕ, _+_, _*_, _-_, _≤_, _<_}
 use native.Mathlib.Omega.{arith}
 use denote.Ref.{now}
-use borrow.Author.Needs.{needs}
 use lib.ListN.{length}
 use Rattle.solids.specs.Cut.{cut}
 use Rattle.records.specs.Record.{elementOf, recordAt}
 use Rattle.records.specs.Loops.{Whole, WholeTable}
 use Rattle.mesh.specs.declared.blocks.Block.{Block}
-use Rattle.mesh.specs.BlockLoops.{BlockIs, Counted}
+use Rattle.mesh.specs.BlockLoops.{BlockIs}
 use Rattle.mesh.proofs.MeshCutLaws.{cutTo, cut-none, count-next}
 use Rattle.mesh.proofs.cutting.count_all.Statement.{statement}
 use Rattle.mesh.proofs.cutting.count_all.Tie as tie

@@ -5,9 +5,8 @@ use mathlib.Core.List.{List}
 use Prim.Native.Nat.{ℕ, _+_, _*_, _-_, _≤_, _<_}
 use native.Mathlib.Omega.{arith}
 use denote.Ref.{now}
-use borrow.Author.Needs.{needs}
 use lib.ListN.{length}
-use Rattle.laws.specs.Lent.{laid, placed}
+use Rattle.laws.specs.Lent.{placed}
 use Rattle.laws.proofs.LentLaws.{placed-none, placed-laid}
 use Rattle.solids.specs.Cut.{cut}
 use Rattle.records.specs.Record.{elementOf, recordAt}
@@ -79,17 +78,19 @@ mul-put-element c = omega (arith, c .before .before .before .loop .inv .few, c .
 
 put-element-requires : tie.Need-put-element-requires Inv-loop μ-loop
 put-element-requires c κs =
-    let e = c .before .record-at .ensures in
-    let h = c .before .before .before .loop .inv in
-    let l = c .before .before .loop-test .taken in (
-      subst Whole (sym e) (c .before .before .before .before .before .before .pre .0 .whole (c .before .before .before .loop .k) l),
-      subst (λ x. tetWidth * c .before .before .before .loop .count + tetWidth * length (cut (elementOf x)) ≤ length (c .before .before .before .loop .out)) (sym e) (enough h l),
+    let l = c .before .before .before .loop in
+    let t = c .before .before .loop-test .taken in
+    let e = sym (c .before .record-at .ensures) in (
+      subst Whole e (c .before .before .before .before .before .before .pre .0 .whole (l .k) t),
+      subst (λ x. tetWidth * l .count + tetWidth * length (cut (elementOf x)) ≤ length (l .out)) e (enough (l .inv) t),
     )
 
 add-count : tie.Need-add-count Inv-loop μ-loop
 add-count c =
+    let w = c .before .before .before .before .before .before .before .before .before .pre .0 in
+    let l = c .before .before .before .before .before .before .loop in
     let m = c .before .before .put-element .ensures .count ∙ ap (λ x. length (cut (elementOf x))) (c .before .before .before .before .record-at .ensures) in
-    omega (arith, c .before .before .before .before .before .before .loop .inv .few, c .before .before .before .before .before .before .before .before .before .pre .0 .few, cut-few _ (c .before .before .before .before .before .before .before .before .before .pre .0 .whole (c .before .before .before .before .before .before .loop .k) (c .before .before .before .before .before .loop-test .taken)))
+    omega (arith, l .inv .few, w .few, cut-few _ (w .whole (l .k) (c .before .before .before .before .before .loop-test .taken)))
 
 add-k : tie.Need-add-k Inv-loop μ-loop
 add-k c = omega (arith, c .before .before .before .before .before .before .before .before .before .pre .0 .few)

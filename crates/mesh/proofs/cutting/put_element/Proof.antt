@@ -1,6 +1,6 @@
 -- The block of the record, stored.
 -- Assumes nothing.
-use mathlib.Core.Path.{_≡_, sym, ap, _∙_}
+use mathlib.Core.Path.{sym, ap, _∙_}
 use native.Mathlib.Omega.{arith}
 use denote.Ref.{now}
 use Rattle.laws.specs.Lent.{placed}
@@ -9,33 +9,26 @@ use Rattle.mesh.specs.BlockLoops.{tetsIn}
 use borrow.Author.Needs.{needs}
 use Rattle.mesh.proofs.cutting.put_element.Statement.{statement}
 use Rattle.mesh.proofs.cutting.put_element.Tie as tie
-use Rattle.mesh.proofs.cutting.put_element.Reads as reads
-use Rattle.mesh.proofs.cutting.put_element.Lts as lts
-use Rattle.mesh.proofs.blocks.block_of.Reads as block-of-reads
-use Rattle.mesh.proofs.cutting.put_tets.Reads as put-tets-reads
 
--- src/cutting.rt:62:9
 block-of-requires : tie.Need-block-of-requires
 block-of-requires c κs = search needs
 
--- src/cutting.rt:65:5
 put-tets-requires : tie.Need-put-tets-requires
 put-tets-requires c κs =
     let h = c .before .before .block-of .ensures in
-    (h .few, omega (arith, h .many, c .before .before .before .before .before .pre .1))
+    (omega (arith, h .few), omega (arith, h .many, c .before .before .before .before .before .pre .1))
 
--- src/cutting.rt:57:1
 same-length : tie.Need-same-length
 same-length c = search needs
 
--- src/cutting.rt:57:1
 returns : tie.Need-returns
 unfolding tetsIn
 returns c =
+    let a = c .before .before .before .before .before .before .before .before .args in
     let h = c .before .before .before .before .before .block-of .ensures in
     record {
       count = sym (h .many);
-      output = c .before .before .put-tets .ensures ∙ ap (λ ts. placed (now (c .before .before .before .before .before .before .before .before .args .out)) (c .before .before .before .before .before .before .before .before .args .at) (flat ts)) (h .same);
+      output = c .before .before .put-tets .ensures ∙ ap (λ ts. placed (now (a .out)) (a .at) (flat ts)) (h .same);
     }
 
 pub put-element-spec : {M : Type 1} → statement M

@@ -10,58 +10,43 @@ use Rattle.mesh.specs.BlockLoops.{tetOf}
 use borrow.Author.Needs.{needs}
 use Rattle.mesh.proofs.cutting.put_tet.Statement.{statement}
 use Rattle.mesh.proofs.cutting.put_tet.Tie as tie
-use Rattle.mesh.proofs.cutting.put_tet.Reads as reads
-use Rattle.mesh.proofs.cutting.put_tet.Lts as lts
 
--- src/cutting.rt:37:5
 mul-out : tie.Need-mul-out
 mul-out c = search needs
 
--- src/cutting.rt:37:5
 slice-write-out : tie.Need-slice-write-out
 slice-write-out c = search needs
 
--- src/cutting.rt:38:9
 add-out : tie.Need-add-out
 add-out c = search needs
 
--- src/cutting.rt:38:5
 mul-out-2 : tie.Need-mul-out-2
 mul-out-2 c = search needs
 
--- src/cutting.rt:38:5
 slice-write-out-2 : tie.Need-slice-write-out-2
 slice-write-out-2 c = simp length-set (omega arith)
 
--- src/cutting.rt:39:9
 add-out-2 : tie.Need-add-out-2
 add-out-2 c = search needs
 
--- src/cutting.rt:39:5
 mul-out-3 : tie.Need-mul-out-3
 mul-out-3 c = search needs
 
--- src/cutting.rt:39:5
 slice-write-out-3 : tie.Need-slice-write-out-3
 slice-write-out-3 c = simp length-set (omega arith)
 
--- src/cutting.rt:40:9
 add-out-3 : tie.Need-add-out-3
 add-out-3 c = search needs
 
--- src/cutting.rt:40:5
 mul-out-4 : tie.Need-mul-out-4
 mul-out-4 c = search needs
 
--- src/cutting.rt:40:5
 slice-write-out-4 : tie.Need-slice-write-out-4
 slice-write-out-4 c = simp length-set (omega arith)
 
--- src/cutting.rt:33:1
 same-length : tie.Need-same-length
 same-length c = search needs
 
--- src/cutting.rt:33:1
 returns : tie.Need-returns
 unfolding flat
 returns c = simp (add-one, add-two, add-three) (placed-sets (c .args .out .now) (c .args .at) (flat (tetOf (c .args .t) ∷ [])) (c .pre))

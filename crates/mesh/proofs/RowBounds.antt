@@ -1,37 +1,16 @@
--- Computed over all shapes of a solid: an element makes at most six tetrahedra, and the row of a hexahedron is one of 64.
+-- Computed over all shapes of a hexahedron: its row is one of 64, and its choice of far diagonals one of 8.
 -- Assumes nothing.
-use mathlib.Core.Path.{_≡_, sym, ap, _∙_}
 use mathlib.Core.Bool.{Bool, _&&_}
-use mathlib.Core.List.{List, map}
+use mathlib.Core.List.{List}
 use Prim.Native.Nat.{ℕ, _≤_, _<_}
 use lib.Dec.{T, leb, ltb, leb→le, ltb→lt}
-use lib.ListN.{length, length-map}
 use Rattle.laws.proofs.TestLaws.{and-left, and-right}
-use Rattle.solids.specs.declared.Solid.{Solid}
-use Rattle.solids.specs.declared.Solid.the-variants.{Tetrahedron, Pyramid, Prism, Hexahedron}
-use Rattle.solids.specs.Solids.{element, opposite, onTet}
-use Rattle.solids.specs.Cut.{first, bitsOf, tetsOf}
+use Rattle.solids.specs.declared.Solid.the-variants.{Hexahedron}
+use Rattle.solids.specs.Solids.{opposite}
+use Rattle.solids.specs.Cut.{first, bitsOf}
 use Rattle.solids.specs.Rows.{binary, rowNumber, rowOf}
 use Rattle.solids.proofs.RenamingLaws.{bitsAt}
-use Rattle.solids.proofs.NumberingLaws.{number}
-use Rattle.solids.proofs.ShapeLaws.{Proper, far, shape, turnsOf, allShapes, at-shape, tets-shape, bits-f}
-
-few : Solid → ℕ → List ℕ → Bool
-few s a ks = leb (length (shape s a ks)) 6
-
-all-few : (s : Solid) → T (allShapes s (few s))
-unfolding few
-all-few Tetrahedron = tt
-all-few Pyramid = tt
-all-few Prism = tt
-all-few Hexahedron = tt
-
--- at most six tetrahedra
-pub tets-few : (s : Solid) (vs : List ℕ) → Proper s vs → length (tetsOf (element s vs)) ≤ 6
-unfolding few
-tets-few s vs h =
-    let t = shape s (first vs) (turnsOf s vs) in
-    rw (ap length (tets-shape s vs h) ∙ length-map t (onTet (number vs))) (leb→le (length t) 6 (at-shape s (few s) (all-few s) vs h))
+use Rattle.solids.proofs.ShapeLaws.{Proper, far, turnsOf, allShapes, at-shape, bits-f}
 
 abbrev bitsOfShape : ℕ → List ℕ → List Bool
 bitsOfShape a ks = bitsAt (opposite a) (far Hexahedron a) ks
