@@ -12,3 +12,7 @@ pub mod ShapeBounds
 pub mod RecordCutLaws
 pub mod StoreLaws
 pub mod MeshCutLaws
+pub mod SiteLaws
+pub mod VolumeLaws
+pub mod BlockWalks
+pub mod SignLaws

@@ -3,3 +3,4 @@ pub mod Judge
 pub mod Cutting
 pub mod Signs
 pub mod BlockLoops
+pub mod SignLoops

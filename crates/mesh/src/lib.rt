@@ -4,6 +4,7 @@ use faults::Refusal;
 mod blocks;
 mod cutting;
 mod judge;
+mod signs;
 
 // What judging a table answers.
 pub enum JudgeAnswer {
