@@ -3,15 +3,18 @@
 use mathlib.Core.Path.{_≡_, refl, sym, ap, _∙_}
 use mathlib.Core.Bool.{Bool, true, false, cond, not}
 use mathlib.Core.List.{List, [], _∷_, _++_, append-nil}
-use Prim.Native.Nat.{ℕ, zero, suc, _+_, _≤_}
+use Prim.Native.Nat.{ℕ, zero, suc, _+_, _*_, _≤_, _<_}
 use native.Mathlib.Omega.{arith}
 use borrow.Author.Tests.{lt-ltb, le-ltb, ne-eqb}
 use lib.Dec.{eqb}
 use lib.IntN.{ℤ, pos, negsuc, natAbs}
-use lib.ListN.{length, length-append}
+use lib.ListN.{length}
 use lib.Signed.{ltZ}
 use Rattle.laws.specs.Words.{count, every}
 use Rattle.laws.proofs.EveryLaws.{count-append}
+use Rattle.faults.specs.declared.Fault.the-variants.{Room, Range}
+use Rattle.faults.specs.declared.Refusal.{Refusal}
+use Rattle.faults.specs.Refusals.{accepted, refused, refuse, answerOf}
 use Rattle.solids.specs.Solids.{Tet, Element}
 use Rattle.solids.specs.Cut.{cut, cutMesh}
 use Rattle.mesh.specs.declared.SignCounts.{SignCounts}
@@ -19,7 +22,10 @@ use Rattle.mesh.specs.declared.blocks.Block.{Block}
 use Rattle.mesh.specs.declared.signs.Sign.{Sign}
 use Rattle.mesh.specs.declared.signs.Sign.the-variants.{Positive, Zero, Negative}
 use Rattle.mesh.specs.declared.signs.Tally.{Tally}
-use Rattle.mesh.specs.Signs.{volumeIn, isPositive, isZero, isNegative, sound, signCounts}
+use Rattle.mesh.specs.declared.SignAnswer.{SignAnswer}
+use Rattle.mesh.specs.declared.SignAnswer.the-variants.{Done, Refused}
+use Rattle.mesh.specs.Judge.{judged}
+use Rattle.mesh.specs.Signs.{vertexWidth, volumeIn, isPositive, isZero, isNegative, sound, signCounts, badPoint, signsOf, signVerdict, SignDone}
 use Rattle.mesh.specs.BlockLoops.{tetsIn, BlockIs}
 use Rattle.mesh.specs.SignLoops.{signOf, isPlus, withSign, Tallied, SaysSound, ofCounts, FewSums, Summed}
 use Rattle.mesh.proofs.StoreLaws.{gather-append}
@@ -208,3 +214,31 @@ module _ (table : List ℤ) where
           negative = omega (arith, joined (isNegative table) (p .negative) (q .negative), count-most (isNegative table) ts);
           unsound = omega (arith, joined-unsound, count-most (λ e. not (sound table e)) (es ++ fs));
         }
+
+-- ---- the answer, by the tests on the way to it
+
+module _ {v n : ℕ} {t : List ℕ} {table : List ℤ} {r : SignAnswer} where
+  says : signVerdict r ≡ signsOf v n t table → SignDone v n t table r
+  says e = record { answer = ap (answerOf (0 ∷ 0 ∷ 0 ∷ 0 ∷ [])) e }
+
+  -- the table is refused
+  pub table-refused : {f : Refusal} → judged v n t ≡ refused f → r ≡ Refused f → SignDone v n t table r
+  unfolding signsOf
+  table-refused h e = says (rw (e, h))
+
+  module _ {es : List Element} (h : judged v n t ≡ accepted es) where
+    -- ROOM for the vertex table
+    pub vertices-short : length table < vertexWidth * v → r ≡ Refused (refuse Room 0) → SignDone v n t table r
+    unfolding signsOf
+    vertices-short l e = says (rw (e, h, lt-ltb (length table) (vertexWidth * v) l))
+
+    module _ (l : vertexWidth * v ≤ length table) where
+      -- RANGE with the vertex's index
+      pub vertex-beyond : {k : ℕ} → k ≡ badPoint table v → 0 < k → r ≡ Refused (refuse Range k) → SignDone v n t table r
+      unfolding signsOf
+      vertex-beyond {k} b p e = says (rw (e, h, le-ltb (length table) (vertexWidth * v) l, ← b, lt-ltb 0 k p))
+
+      -- the four counts
+      pub all-counted : {c : SignCounts} → badPoint table v ≡ 0 → ofCounts c ≡ signCounts table es → r ≡ Done c → SignDone v n t table r
+      unfolding signsOf
+      all-counted {c} b k e = says (rw (e, h, le-ltb (length table) (vertexWidth * v) l, b) (ap accepted k))

@@ -1,10 +1,10 @@
 -- Where no record has a fault and no vertex is beyond the limits, the corners of each element, and so the vertices of each tetrahedron of its
 -- cut, stand in the vertex table and are within the limits. And what that says of a vertex.
 -- Assumes nothing.
-use mathlib.Core.Path.{_≡_, refl, sym, ap, _∙_, subst}
-use mathlib.Core.Bool.{Bool, true, false, not, _&&_}
+use mathlib.Core.Path.{_≡_, sym, ap, _∙_, subst}
+use mathlib.Core.Bool.{true, not, _&&_}
 use mathlib.Core.List.{List, [], _∷_}
-use Prim.Native.Nat.{ℕ, _+_, _*_, _-_, _≤_, _<_}
+use Prim.Native.Nat.{ℕ, _+_, _*_, _-_, _≤_}
 use native.Mathlib.Omega.{arith}
 use borrow.Author.Tests.{not-false}
 use lib.Dec.{T, ltb, leb, ltb→lt, leb→le, lt→ltb, le→leb}
@@ -15,7 +15,7 @@ use Rattle.laws.proofs.TestLaws.{T-true, true-T, and-left, and-right, and-both}
 use Rattle.laws.proofs.EveryLaws.{every-implies, among-every}
 use Rattle.laws.proofs.SearchLaws.{least-all}
 use Rattle.volume.specs.Volume.{pointInRange, pointAt}
-use Rattle.solids.specs.Solids.{Tet, tet, ofTet, cornersOf}
+use Rattle.solids.specs.Solids.{tet, ofTet}
 use Rattle.solids.specs.Cut.{cut}
 use Rattle.solids.proofs.Theorems.{plain}
 use Rattle.records.specs.Record.{usedOf, elementOf, recordAt}

@@ -12,7 +12,6 @@ ghost use lib.Dec.{T};
 ghost use lib.ListN.{length};
 ghost use Rattle.laws.specs.Words.{every};
 ghost use Rattle.volume.specs.Volume.{pointInRange, pointAt};
-ghost use Rattle.solids.specs.Solids.{ofTet};
 ghost use Rattle.records.specs.Record.{usedOf, elementOf, firstElements};
 ghost use Rattle.records.specs.Loops.{Whole, WholeTable};
 ghost use Rattle.mesh.specs.Signs.{vertexWidth, volumeIn, signCounts, badPoint};
@@ -179,13 +178,13 @@ fn sound_block(block: Block, vertices: &[i32]) -> bool
 {
     let n = block.count;
     let tets = block.tets;
-    let mut k = 0;
-    while k < n {
-        let t = tets[k];
+    let mut passed = 0;
+    while passed < n {
+        let t = tets[passed];
         if !is_plus(sign_at(t, vertices)) {
             return false;
         }
-        k += 1;
+        passed += 1;
     }
     true
 }

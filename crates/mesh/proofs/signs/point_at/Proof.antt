@@ -1,10 +1,6 @@
 -- The three numbers of the table are the vertex.
 -- Assumes nothing.
-use Prim.Native.Nat.{_+_, _*_, _-_}
-use lib.IntN.{pos}
-use lib.ListN.{getD}
-use mir.Facts.{toZ-ofZ}
-use mir.Syntax.{w32}
+use Prim.Native.Nat.{_-_}
 use Rattle.volume.specs.Volume.{pointAt}
 use borrow.Author.Needs.{needs}
 use Rattle.mesh.proofs.signs.point_at.Statement.{statement}

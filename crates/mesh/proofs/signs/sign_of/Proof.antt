@@ -3,8 +3,6 @@
 use mathlib.Core.Path.{_≡_, refl, sym, _∙_, subst}
 use mathlib.Core.Bool.{true, false}
 use lib.Dec.{T}
-use lib.IntN.{ℤ, pos}
-use lib.Signed.{ltZ}
 use mir.Facts.{toZ-ofZ}
 use Rattle.mesh.specs.declared.signs.Sign.{Sign}
 use Rattle.mesh.specs.declared.signs.Sign.the-variants.{Positive, Zero, Negative}

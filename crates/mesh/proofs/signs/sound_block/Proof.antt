@@ -1,7 +1,7 @@
 -- The loop keeps that the tetrahedra before k are positive: whether those that are left are is whether all are.
 -- Assumes nothing.
-use mathlib.Core.Path.{_≡_, refl, sym, ap, _∙_}
-use mathlib.Core.Bool.{Bool, true, false, not}
+use mathlib.Core.Path.{_≡_, sym, ap, _∙_}
+use mathlib.Core.Bool.{Bool, true, false}
 use mathlib.Core.List.{List, map}
 use Prim.Native.Nat.{ℕ, _+_, _-_, _≤_, _<_}
 use native.Mathlib.Omega.{arith}
@@ -58,10 +58,10 @@ module _ {table : List ℤ} {n : ℕ} {tets : List code.Tet} {k : ℕ} (h : Kept
   end l = sym (left-end (h .left) (omega (arith, many)))
 
 abbrev Inv-loop : tie.InvT-loop
-Inv-loop vertices n tets k₀ k = Kept vertices n tets k
+Inv-loop vertices n tets passed₀ passed = Kept vertices n tets passed
 
 abbrev μ-loop : tie.MeasureT-loop
-μ-loop vertices n tets k₀ k = n - k
+μ-loop vertices n tets passed₀ passed = n - passed
 
 loop-holds : tie.Need-loop-holds Inv-loop μ-loop
 unfolding tetsIn
@@ -90,8 +90,8 @@ returns c =
     says-sound (now (c .before .before .before .before .before .before .before .args .vertices))
     (found h l (tested h l (c .before .before .sign-at .ensures) (c .before .is-plus .ensures) (not-true _ (c .if1 .taken))))
 
-add-k : tie.Need-add-k Inv-loop μ-loop
-add-k c = omega (arith, c .before .before .before .before .before .loop .inv .walk .few)
+add-passed : tie.Need-add-passed Inv-loop μ-loop
+add-passed c = omega (arith, c .before .before .before .before .before .loop .inv .walk .few)
 
 loop-less : tie.Need-loop-less Inv-loop μ-loop
 loop-less c = omega arith
@@ -119,7 +119,7 @@ sound-block-spec =
     sign-at-requires
     is-plus-requires
     returns
-    add-k
+    add-passed
     loop-less
     loop-again
     returns-2)

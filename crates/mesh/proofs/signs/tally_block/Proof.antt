@@ -1,22 +1,19 @@
 -- The loop keeps the counts of the tetrahedra before k.
 -- Assumes nothing.
-use mathlib.Core.Path.{_≡_, refl, sym, ap, _∙_, subst}
+use mathlib.Core.Path.{_≡_, ap, _∙_}
 use mathlib.Core.List.{List, map}
-use Prim.Native.Nat.{ℕ, suc, _+_, _-_, _≤_, _<_}
+use Prim.Native.Nat.{ℕ, _+_, _-_, _<_}
 use native.Mathlib.Numerals.{add-one}
 use native.Mathlib.Omega.{arith}
-use borrow.Author.Needs.{needs}
 use denote.Ref.{now}
-use lib.Dec.{T}
 use lib.IntN.{ℤ}
-use lib.ListN.{length, take, getD}
-use Rattle.laws.specs.Words.{every}
+use lib.ListN.{take, getD}
 use Rattle.mesh.specs.declared.blocks.Tet as code
 use Rattle.mesh.specs.declared.signs.Sign.{Sign}
 use Rattle.mesh.specs.declared.signs.Tally.{Tally}
 use Rattle.mesh.specs.Signs.{volumeIn}
 use Rattle.mesh.specs.BlockLoops.{tetOf, tetsIn}
-use Rattle.mesh.specs.SignLoops.{sitedTet, signOf, withSign, Few, Tallied}
+use Rattle.mesh.specs.SignLoops.{signOf, withSign, Few, Tallied}
 use Rattle.mesh.proofs.InsertLaws.{none}
 use Rattle.mesh.proofs.SignLaws.{tallied-none, tallied-next, tallied-most}
 use Rattle.mesh.proofs.BlockWalks.{Walk, walk-start, walk-next, tets-next, tets-passed, site-at}
