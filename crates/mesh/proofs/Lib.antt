@@ -17,3 +17,7 @@ pub mod StoreLaws
 pub mod MeshCutLaws
 pub mod AcceptedLaws
 pub mod Theorems
+pub mod SiteLaws
+pub mod VolumeLaws
+pub mod BlockWalks
+pub mod SignLaws

@@ -19,7 +19,7 @@ use Rattle.mesh.specs.declared.JudgeAnswer.{JudgeAnswer}
 use Rattle.mesh.specs.declared.JudgeAnswer.the-variants.{Done, Refused}
 use Rattle.mesh.specs.Judge.{mostVertices, mostElements, faultIn, badRecord, badElement, misfit, judged}
 use Rattle.mesh.specs.JudgeLoops.{Accepted, Judging}
-use Rattle.mesh.proofs.JudgeLaws.{records-whole, records-inside}
+use Rattle.mesh.proofs.JudgeLaws.{records-whole}
 
 -- ---- refusals made of what the code found
 
@@ -75,7 +75,7 @@ module _ (v n : ℕ) (t : List ℕ) where
             verdict = rw (le-ltb mostVertices v a, le-ltb mostElements n b, le-ltb (length t) (width * n) long, d, e);
             few = a;
             table = records-whole v t n d b long;
-            inside = records-inside v t n d;
+            clean = d;
           }
 
 -- a refusal by a count or a length

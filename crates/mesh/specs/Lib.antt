@@ -5,3 +5,4 @@ pub mod Cutting
 pub mod Signs
 pub mod BlockLoops
 pub mod FitLoops
+pub mod SignLoops

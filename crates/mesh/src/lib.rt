@@ -1,6 +1,9 @@
 // Element tables: judged, cut, and counted by sign.
+ghost use mathlib.Core.Path.{_≡_};
+ghost use Rattle.faults.specs.Refusals.{refuse};
 ghost use Rattle.mesh.specs.Judge.{JudgeDone};
 ghost use Rattle.mesh.specs.Cutting.{CutDone};
+ghost use Rattle.mesh.specs.Signs.{SignDone};
 use faults::Fault;
 use faults::Refusal;
 
@@ -8,6 +11,7 @@ mod blocks;
 mod cutting;
 mod fit;
 mod judge;
+mod signs;
 
 // What judging a table answers.
 pub enum JudgeAnswer {
@@ -70,5 +74,40 @@ pub fn cut_mesh(
             cutting::cut_all(elements, element_count, tetrahedra);
             CutAnswer::Done(CutCounts { tetrahedra: count })
         }
+    }
+}
+
+// Counts the signs of a cut: judges the table, then the vertex table, ROOM and RANGE.
+pub fn sign_report(
+    vertex_count: usize,
+    element_count: usize,
+    elements: &[u16],
+    vertices: &[i32],
+) -> SignAnswer
+    ensures { λ r. ⌜ SignDone «vertex_count» «element_count» (now (elements .entry)) (now (vertices .entry)) r ⌝ }
+{
+    match judge::judge(vertex_count, element_count, elements) {
+        JudgeAnswer::Refused(refusal) => SignAnswer::Refused(refusal),
+        JudgeAnswer::Done => {
+            if vertices.len() < signs::numbers_of(vertex_count) {
+                return SignAnswer::Refused(refuse(Fault::Room, 0));
+            }
+            let k = signs::bad_point(vertices, vertex_count);
+            if 0 < k {
+                return SignAnswer::Refused(refuse(Fault::Range, k));
+            }
+            SignAnswer::Done(signs::count_signs(elements, element_count, vertices))
+        }
+    }
+}
+
+// A fault with the place that it names.
+fn refuse(fault: Fault, place: usize) -> Refusal
+    ensures { λ r. ⌜ r ≡ refuse fault place ⌝ }
+{
+    Refusal {
+        fault,
+        place,
+        second: 0,
     }
 }

@@ -1,0 +1,45 @@
+-- The tetrahedra of the element's block by sign, and whether the element is sound.
+-- Assumes nothing.
+use mathlib.Core.Path.{sym, _∙_}
+use borrow.Author.Needs.{needs}
+use denote.Ref.{now}
+use Rattle.records.specs.Record.{elementOf}
+use Rattle.mesh.specs.SignLoops.{SitedBlock}
+use Rattle.mesh.proofs.SiteLaws.{block-sited}
+use Rattle.mesh.proofs.SignLaws.{counts-of-one}
+use Rattle.mesh.proofs.signs.element_counts.Statement.{statement}
+use Rattle.mesh.proofs.signs.element_counts.Tie as tie
+
+-- the block's tetrahedra stand in the table
+sites : (c : tie.After-block-of) → SitedBlock (now (c .before .before .args .vertices)) (c .block-of .result)
+sites c =
+    let s = c .before .before in
+    block-sited (now (s .args .vertices)) (now (s .args .numbers)) (s .pre .0) (s .pre .1) (c .block-of .ensures)
+
+block-of-requires : tie.Need-block-of-requires
+block-of-requires c κs = search needs
+
+tally-block-requires : tie.Need-tally-block-requires
+tally-block-requires c κs = sites c
+
+sound-block-requires : tie.Need-sound-block-requires
+sound-block-requires c κs = sites (c .before)
+
+returns : tie.Need-returns
+returns c =
+    let s = c .before .before .before .before .before in
+    let b = c .before .before .before .block-of .ensures in
+    counts-of-one (now (s .args .vertices)) (elementOf (now (s .args .numbers))) b (c .before .before .tally-block .ensures)
+    (rw (sym (c .before .sound-block .ensures .same (elementOf (now (s .args .numbers))) b) ∙ c .if1 .taken))
+
+returns-2 : tie.Need-returns-2
+returns-2 c =
+    let s = c .before .before .before .before .before in
+    let b = c .before .before .before .block-of .ensures in
+    counts-of-one (now (s .args .vertices)) (elementOf (now (s .args .numbers))) b (c .before .before .tally-block .ensures)
+    (rw (sym (c .before .sound-block .ensures .same (elementOf (now (s .args .numbers))) b) ∙ c .if1 .left))
+
+pub element-counts-spec : {M : Type 1} → statement M
+element-counts-spec =
+    tie.close
+    (tie.spec block-of-requires tally-block-requires sound-block-requires returns returns-2)

@@ -1,0 +1,96 @@
+-- Shapes that only the functions of the private module signs want; proofs/SignLaws.antt says that each is what the page's definitions give.
+use mathlib.Core.Path.{_≡_}
+use mathlib.Core.Bool.{Bool, true, false, _&&_}
+use mathlib.Core.List.{List, [], _∷_}
+use Prim.Native.Nat.{ℕ, zero, suc, _+_, _*_, _≤_, _<_}
+use lib.Dec.{T, ltb, leb}
+use lib.IntN.{ℤ, pos, negsuc}
+use lib.ListN.{length}
+use Rattle.laws.specs.Words.{count, every}
+use Rattle.volume.specs.Volume.{pointInRange, pointAt}
+use Rattle.solids.specs.Solids.{Vertex, Tet, ofTet, Element}
+use Rattle.solids.specs.Cut.{cut}
+use Rattle.records.specs.Record.{usedOf, recordAt}
+use Rattle.mesh.specs.declared.SignCounts.{SignCounts}
+use Rattle.mesh.specs.declared.blocks.Block.{Block}
+use Rattle.mesh.specs.declared.signs.Sign.{Sign}
+use Rattle.mesh.specs.declared.signs.Sign.the-variants.{Positive, Zero, Negative}
+use Rattle.mesh.specs.declared.signs.Tally.{Tally}
+use Rattle.mesh.specs.Signs.{vertexWidth, isPositive, isZero, isNegative, sound}
+use Rattle.mesh.specs.BlockLoops.{tetsIn, BlockIs}
+
+-- ---- a vertex table
+
+-- a vertex number, from 1, whose point stands in the table and is within the limits
+unfoldable pub sited : List ℤ → Vertex → Bool
+sited table v = ltb 0 v && (leb (vertexWidth * v) (length table) && pointInRange (pointAt table v))
+
+-- all four of a tetrahedron are
+unfoldable pub sitedTet : List ℤ → Tet Vertex → Bool
+sitedTet table t = every (sited table) (ofTet t)
+
+-- a block of at most six tetrahedra, all of them sited
+pub record SitedBlock (table : List ℤ) (block : Block) : Type 0 where
+  pub few : block .count ≤ 6
+  pub many : length (tetsIn block) ≡ block .count
+  pub sites : T (every (sitedTet table) (tetsIn block))
+
+-- the corners of each of the first n records are sited
+pub record SitedTable (table : List ℤ) (t : List ℕ) (n : ℕ) : Type 0 where
+  pub sites : (k : ℕ) → k < n → T (every (sited table) (usedOf (recordAt t k)))
+
+-- ---- a sign
+
+-- the sign of a number
+abbrev pub signOf : ℤ → Sign
+signOf (pos zero) = Zero
+signOf (pos (suc n)) = Positive
+signOf (negsuc n) = Negative
+
+-- the sign is positive
+abbrev pub isPlus : Sign → Bool
+isPlus Positive = true
+isPlus Zero = false
+isPlus Negative = false
+
+-- one tetrahedron more of a sign
+abbrev pub withSign : Sign → Tally → Tally
+withSign Positive c = record { positive = c .positive + 1; zero = c .zero; negative = c .negative }
+withSign Zero c = record { positive = c .positive; zero = c .zero + 1; negative = c .negative }
+withSign Negative c = record { positive = c .positive; zero = c .zero; negative = c .negative + 1 }
+
+-- ---- counts
+
+-- counts of fewer than six tetrahedra
+pub record Few (c : Tally) : Type 0 where
+  pub positive : c .positive < 6
+  pub zero : c .zero < 6
+  pub negative : c .negative < 6
+
+-- the counts are those of these tetrahedra
+pub record Tallied (table : List ℤ) (ts : List (Tet Vertex)) (c : Tally) : Type 0 where
+  pub positive : c .positive ≡ count (isPositive table) ts
+  pub zero : c .zero ≡ count (isZero table) ts
+  pub negative : c .negative ≡ count (isNegative table) ts
+
+-- b says whether an element is sound that is cut into these tetrahedra
+pub record SaysSound (table : List ℤ) (block : Block) (b : Bool) : Type 0 where
+  pub same : (e : Element) → BlockIs block (cut e) → b ≡ sound table e
+
+-- the four counts as a list
+abbrev pub ofCounts : SignCounts → List ℕ
+ofCounts c = c .positive ∷ c .zero ∷ c .negative ∷ c .unsound ∷ []
+
+-- no sum is above the greatest number of tetrahedra
+pub record FewSums (a b : SignCounts) : Type 0 where
+  pub positive : a .positive + b .positive ≤ 6144
+  pub zero : a .zero + b .zero ≤ 6144
+  pub negative : a .negative + b .negative ≤ 6144
+  pub unsound : a .unsound + b .unsound ≤ 6144
+
+-- each count of the one and of the other, together
+pub record Summed (a b r : SignCounts) : Type 0 where
+  pub positive : r .positive ≡ a .positive + b .positive
+  pub zero : r .zero ≡ a .zero + b .zero
+  pub negative : r .negative ≡ a .negative + b .negative
+  pub unsound : r .unsound ≡ a .unsound + b .unsound

@@ -1,0 +1,260 @@
+// The first vertex beyond the limits, and the signs of a table's tetrahedra, counted.
+use crate::SignCounts;
+use crate::blocks;
+use crate::blocks::Block;
+use crate::blocks::Tet;
+use volume::Point;
+use volume::VolumeAnswer;
+ghost use mathlib.Core.Path.{_≡_};
+ghost use mathlib.Core.List.{[], _∷_};
+ghost use Prim.Native.Nat.{_*_, _≤_};
+ghost use lib.Dec.{T};
+ghost use lib.ListN.{length};
+ghost use Rattle.laws.specs.Words.{every};
+ghost use Rattle.volume.specs.Volume.{pointInRange, pointAt};
+ghost use Rattle.records.specs.Record.{usedOf, elementOf, firstElements};
+ghost use Rattle.records.specs.Loops.{Whole, WholeTable};
+ghost use Rattle.mesh.specs.Signs.{vertexWidth, volumeIn, signCounts, badPoint};
+ghost use Rattle.mesh.specs.BlockLoops.{tetOf, tetsIn};
+ghost use Rattle.mesh.specs.SignLoops.{sited, sitedTet, SitedBlock, SitedTable, signOf, isPlus, withSign, Few, Tallied, SaysSound, ofCounts, FewSums, Summed};
+
+// How many numbers a vertex has.
+const POINT: usize = 3;
+
+// The sign of a tetrahedron's sixfold volume.
+pub enum Sign {
+    Positive,
+    Zero,
+    Negative,
+}
+
+// How many tetrahedra have each sign.
+pub struct Tally {
+    pub positive: usize,
+    pub zero: usize,
+    pub negative: usize,
+}
+
+// The vertex v, from 1, of a vertex table.
+fn point_at(vertices: &[i32], v: usize) -> Point
+    requires { ⌜ 1 ≤ v ⌝ }
+    requires { ⌜ vertexWidth * v ≤ length (now vertices) ⌝ }
+    ensures { λ p. ⌜ p ≡ pointAt (now (vertices .entry)) v ⌝ }
+{
+    let at = POINT * (v - 1);
+    Point {
+        x: vertices[at],
+        y: vertices[at + 1],
+        z: vertices[at + 2],
+    }
+}
+
+// A point is within the limits: the sixfold volume of it alone is not refused.
+fn within_limits(p: Point) -> bool
+    ensures { λ r. ⌜ r ≡ pointInRange p ⌝ }
+{
+    match volume::sixfold_volume(p, p, p, p) {
+        VolumeAnswer::Done(_) => true,
+        VolumeAnswer::Refused(_) => false,
+    }
+}
+
+// The number, from 1, of the first of n vertices with a coordinate beyond the limits, or 0.
+pub fn bad_point(vertices: &[i32], n: usize) -> usize
+    requires { ⌜ n ≤ 4096 ⌝ }
+    requires { ⌜ vertexWidth * n ≤ length (now vertices) ⌝ }
+    ensures { λ r. ⌜ r ≡ badPoint (now (vertices .entry)) n ⌝ }
+{
+    let mut k = 0;
+    while k < n {
+        if !within_limits(point_at(vertices, k + 1)) {
+            return k + 1;
+        }
+        k += 1;
+    }
+    0
+}
+
+// The sixfold volume of a tetrahedron; no point of it is refused.
+fn volume_at(t: Tet, vertices: &[i32]) -> i64
+    requires { ⌜ T (sitedTet (now vertices) (tetOf t)) ⌝ }
+    ensures { λ z. ⌜ z ≡ volumeIn (now (vertices .entry)) (tetOf t) ⌝ }
+{
+    let a = point_at(vertices, t.0.0 as usize);
+    let b = point_at(vertices, t.1.0 as usize);
+    let c = point_at(vertices, t.2.0 as usize);
+    let d = point_at(vertices, t.3.0 as usize);
+    match volume::sixfold_volume(a, b, c, d) {
+        VolumeAnswer::Done(z) => z,
+        VolumeAnswer::Refused(_) => 0,
+    }
+}
+
+// The sign of a number.
+fn sign_of(z: i64) -> Sign
+    ensures { λ s. ⌜ s ≡ signOf z ⌝ }
+{
+    if 0 < z {
+        return Sign::Positive;
+    }
+    if z < 0 {
+        return Sign::Negative;
+    }
+    Sign::Zero
+}
+
+// The sign of a tetrahedron.
+fn sign_at(t: Tet, vertices: &[i32]) -> Sign
+    requires { ⌜ T (sitedTet (now vertices) (tetOf t)) ⌝ }
+    ensures { λ s. ⌜ s ≡ signOf (volumeIn (now (vertices .entry)) (tetOf t)) ⌝ }
+{
+    sign_of(volume_at(t, vertices))
+}
+
+// One tetrahedron more of a sign.
+fn with_sign(tally: Tally, sign: Sign) -> Tally
+    requires { ⌜ Few tally ⌝ }
+    ensures { λ r. ⌜ r ≡ withSign sign tally ⌝ }
+{
+    let positive = tally.positive;
+    let zero = tally.zero;
+    let negative = tally.negative;
+    match sign {
+        Sign::Positive => Tally {
+            positive: positive + 1,
+            zero: zero,
+            negative: negative,
+        },
+        Sign::Zero => Tally {
+            positive: positive,
+            zero: zero + 1,
+            negative: negative,
+        },
+        Sign::Negative => Tally {
+            positive: positive,
+            zero: zero,
+            negative: negative + 1,
+        },
+    }
+}
+
+// A block's tetrahedra, counted by sign.
+fn tally_block(block: Block, vertices: &[i32]) -> Tally
+    requires { ⌜ SitedBlock (now vertices) block ⌝ }
+    ensures { λ r. ⌜ Tallied (now (vertices .entry)) (tetsIn block) r ⌝ }
+{
+    let n = block.count;
+    let tets = block.tets;
+    let mut tally = Tally {
+        positive: 0,
+        zero: 0,
+        negative: 0,
+    };
+    let mut k = 0;
+    while k < n {
+        let t = tets[k];
+        let next = with_sign(tally, sign_at(t, vertices));
+        tally = next;
+        k += 1;
+    }
+    tally
+}
+
+// The sign is positive.
+fn is_plus(sign: Sign) -> bool
+    ensures { λ r. ⌜ r ≡ isPlus sign ⌝ }
+{
+    match sign {
+        Sign::Positive => true,
+        Sign::Zero => false,
+        Sign::Negative => false,
+    }
+}
+
+// The element that is cut into a block is sound: all its tetrahedra are positive.
+fn sound_block(block: Block, vertices: &[i32]) -> bool
+    requires { ⌜ SitedBlock (now vertices) block ⌝ }
+    ensures { λ r. ⌜ SaysSound (now (vertices .entry)) block r ⌝ }
+{
+    let n = block.count;
+    let tets = block.tets;
+    let mut passed = 0;
+    while passed < n {
+        let t = tets[passed];
+        if !is_plus(sign_at(t, vertices)) {
+            return false;
+        }
+        passed += 1;
+    }
+    true
+}
+
+// The four counts of one element.
+fn element_counts(numbers: &[u16], vertices: &[i32]) -> SignCounts
+    requires { ⌜ Whole (now numbers) ⌝ }
+    requires { ⌜ T (every (sited (now vertices)) (usedOf (now numbers))) ⌝ }
+    ensures { λ r. ⌜ ofCounts r ≡ signCounts (now (vertices .entry)) (elementOf (now (numbers .entry)) ∷ []) ⌝ }
+{
+    let block = blocks::block_of(numbers);
+    let tally = tally_block(block, vertices);
+    let positive = tally.positive;
+    let zero = tally.zero;
+    let negative = tally.negative;
+    if sound_block(block, vertices) {
+        return SignCounts {
+            positive: positive,
+            zero: zero,
+            negative: negative,
+            unsound: 0,
+        };
+    }
+    SignCounts {
+        positive: positive,
+        zero: zero,
+        negative: negative,
+        unsound: 1,
+    }
+}
+
+// Each count of the one and of the other, together.
+fn sum_of(a: SignCounts, b: SignCounts) -> SignCounts
+    requires { ⌜ FewSums a b ⌝ }
+    ensures { λ r. ⌜ Summed a b r ⌝ }
+{
+    SignCounts {
+        positive: a.positive + b.positive,
+        zero: a.zero + b.zero,
+        negative: a.negative + b.negative,
+        unsound: a.unsound + b.unsound,
+    }
+}
+
+// Positive, zero and negative tetrahedra of the cut of the first n elements, and unsound elements.
+pub fn count_signs(table: &[u16], n: usize, vertices: &[i32]) -> SignCounts
+    requires { ⌜ WholeTable (now table) n ⌝ }
+    requires { ⌜ SitedTable (now vertices) (now table) n ⌝ }
+    ensures { λ r. ⌜ ofCounts r ≡ signCounts (now (vertices .entry)) (firstElements (now (table .entry)) n) ⌝ }
+{
+    let mut counts = SignCounts {
+        positive: 0,
+        zero: 0,
+        negative: 0,
+        unsound: 0,
+    };
+    let mut k = 0;
+    while k < n {
+        let more = element_counts(records::record_at(table, k), vertices);
+        let next = sum_of(counts, more);
+        counts = next;
+        k += 1;
+    }
+    counts
+}
+
+// How many numbers the vertices take.
+pub fn numbers_of(count: usize) -> usize
+    requires { ⌜ count ≤ 4096 ⌝ }
+    ensures { λ r. ⌜ r ≡ vertexWidth * count ⌝ }
+{
+    POINT * count
+}
