@@ -1,0 +1,16 @@
+// The text file: reading it into two lent tables.
+pub mod terms;
+mod constants;
+use faults::Refusal;
+
+// How many vertices and elements the file gave.
+pub struct ReadCounts {
+    pub vertices: usize,
+    pub elements: usize,
+}
+
+// What reading says of a file.
+pub enum ReadAnswer {
+    Done(ReadCounts),
+    Refused(Refusal),
+}
