@@ -1,1 +1,29 @@
--- Loops
+-- What private functions say beside the page's definitions: sizes and shapes that only their callers and loops want.
+use Prim.Native.Nat.{ℕ, _^_, _<_}
+use mathlib.Core.Path.{_≡_}
+use mathlib.Core.List.{List}
+use lib.ListN.{length}
+use Rattle.text.specs.Constants.{numberDigits}
+use Rattle.text.specs.Number.{spelt, whole, numberOf}
+use Rattle.text.specs.declared.terms.Spelt.{Spelt}
+use Rattle.text.specs.declared.terms.Spelt.the-variants.{Of, Not}
+
+-- a number below k, or none
+abbrev pub Under : ℕ → Spelt → Type 0
+Under k (Of n) = n < k
+Under k Not = Unit {0}
+
+-- the number that the digits spell, with no more digits than they are
+pub record DigitsRead (l : List ℕ) (r : Spelt) : Type 0 where
+  pub is : r ≡ spelt 0 l
+  pub small : Under (10 ^ length l) r
+
+-- 0, or one to k digits
+pub record WholeRead (k : ℕ) (l : List ℕ) (r : Spelt) : Type 0 where
+  pub is : r ≡ whole k l
+  pub small : Under (10 ^ k) r
+
+-- a vertex number or count
+pub record NumberRead (l : List ℕ) (r : Spelt) : Type 0 where
+  pub is : r ≡ numberOf l
+  pub small : Under (10 ^ numberDigits) r

@@ -1,6 +1,9 @@
 // The text file: reading it into two lent tables.
-pub mod terms;
 mod constants;
+mod number;
+mod scan;
+pub mod terms;
+
 use faults::Refusal;
 
 // How many vertices and elements the file gave.
