@@ -39,7 +39,7 @@ unfolding coordinateOf
 returns-3 c =
     let t = c .before .before .before .before .before .args .t .now in
     let h : getD t 0 0 ≡ 45 → ⊥ =
-        ⊎-elim (λ w. w .2 .left) (λ w e. omega (arith, e, List·getD-eq-default t 0 (w .left))) (c .before .if2 .came) in
+    ⊎-elim (λ w. w .2 .left) (λ w e. omega (arith, e, List·getD-eq-default t 0 (w .left))) (c .before .if2 .came) in
     rw (c .before .before .before .find .ensures .miss (c .before .before .if1 .left), ne-eqb _ _ h) (c .unsigned2 .ensures)
 
 pub coordinate-spec : {M : Type 1} → statement M

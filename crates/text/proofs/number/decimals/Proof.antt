@@ -50,7 +50,7 @@ unfolding decimals
 returns-5 c =
     let t = c .before .before .before .before .before .before .before .before .before .args .t .now in
     let h : length t ≡ 3 =
-        omega (arith, c .before .before .before .before .before .before .before .if1 .left, c .before .before .before .before .before .before .if2 .left, c .before .if3 .left, c .if4 .left) in
+    omega (arith, c .before .before .before .before .before .before .before .if1 .left, c .before .before .before .before .before .before .if2 .left, c .before .if3 .left, c .if4 .left) in
     rw (h, ← c .before .before .before .before .before .digits .ensures .is, c .before .before .before .f .given .1, mul-one)
 
 returns-6 : tie.Need-returns-6

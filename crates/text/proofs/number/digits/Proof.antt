@@ -62,10 +62,11 @@ loop-less c = search needs
 
 loop-again : tie.Need-loop-again Inv-loop μ-loop
 loop-again c =
-    let l = c .before .before .before .before .loop in
-    (search needs,
-    rw (add-one, pow-suc) (omega arith),
-    l .inv .2 ∙ spelt-digit _ _ _ (c .before .before .before .loop-test .taken) (c .before .if1 .left) (c .if2 .left))
+    let l = c .before .before .before .before .loop in (
+      search needs,
+      rw (add-one, pow-suc) (omega arith),
+      l .inv .2 ∙ spelt-digit _ _ _ (c .before .before .before .loop-test .taken) (c .before .if1 .left) (c .if2 .left),
+    )
 
 returns-3 : tie.Need-returns-3 Inv-loop μ-loop
 returns-3 c =

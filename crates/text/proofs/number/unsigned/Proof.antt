@@ -33,7 +33,7 @@ returns-2 : tie.Need-returns-2
 unfolding unsigned
 returns-2 c =
     let h : c .before .before .before .before .find .result < length (c .before .before .before .before .before .before .args .t .now) =
-        omega (arith, c .before .before .before .before .find .ensures .high, c .before .before .before .if1 .left) in
+    omega (arith, c .before .before .before .before .find .ensures .high, c .before .before .before .if1 .left) in
     rw (c .before .before .before .before .find .ensures .hit h, ← c .before .before .past .ensures, c .before .find2 .ensures .hit (c .if2 .taken))
 
 until-requires : tie.Need-until-requires
@@ -52,11 +52,16 @@ returns-3 : tie.Need-returns-3
 unfolding unsigned
 returns-3 c =
     let h : c .before .before .before .before .before .before .before .before .find .result < length (c .before .before .before .before .before .before .before .before .before .before .args .t .now) =
-        omega (arith, c .before .before .before .before .before .before .before .before .find .ensures .high, c .before .before .before .before .before .before .before .if1 .left) in
-    rw
-      (c .before .before .before .before .before .before .before .before .find .ensures .hit h, ← c .before .before .before .before .before .before .past .ensures, c .before .before .before .before .before .find2 .ensures .miss (c .before .before .before .before .if2 .left),
-        ← c .before .before .before .until .ensures, ← c .before .before .whole2 .ensures .is, ← c .before .decimals .ensures)
-      (c .millimetres2 .ensures)
+    omega (arith, c .before .before .before .before .before .before .before .before .find .ensures .high, c .before .before .before .before .before .before .before .if1 .left) in
+    rw (
+      c .before .before .before .before .before .before .before .before .find .ensures .hit h,
+      ← c .before .before .before .before .before .before .past .ensures,
+      c .before .before .before .before .before .find2 .ensures .miss (c .before .before .before .before .if2 .left),
+      ← c .before .before .before .until .ensures,
+      ← c .before .before .whole2 .ensures .is,
+      ← c .before .decimals .ensures,
+    )
+    (c .millimetres2 .ensures)
 
 pub unsigned-spec : {M : Type 1} → statement M
 unsigned-spec =

@@ -22,16 +22,16 @@ shared-slice-read-if2 c = search needs
 returns-2 : tie.Need-returns-2
 unfolding whole
 returns-2 c = record {
-      is = rw (ne-eqb _ _ (c .before .before .before .if1 .left), eq-eqb _ _ (c .before .if2 .taken), eq-eqb _ _ (c .if3 .taken));
-      small = lt-of-lt-of-le (lit< tt) (pow-le-pow-right (lit< tt) zero-le);
-    }
+  is = rw (ne-eqb _ _ (c .before .before .before .if1 .left), eq-eqb _ _ (c .before .if2 .taken), eq-eqb _ _ (c .if3 .taken));
+  small = lt-of-lt-of-le (lit< tt) (pow-le-pow-right (lit< tt) zero-le);
+}
 
 returns-3 : tie.Need-returns-3
 unfolding whole
 returns-3 c = record {
-      is = rw (ne-eqb _ _ (c .before .before .before .if1 .left), eq-eqb _ _ (c .before .if2 .taken), ne-eqb _ _ (c .if3 .left));
-      small = tt;
-    }
+  is = rw (ne-eqb _ _ (c .before .before .before .if1 .left), eq-eqb _ _ (c .before .if2 .taken), ne-eqb _ _ (c .if3 .left));
+  small = tt;
+}
 
 digits-requires : tie.Need-digits-requires
 digits-requires c κs = search needs
@@ -50,9 +50,9 @@ returns-4 c =
 returns-5 : tie.Need-returns-5
 unfolding whole
 returns-5 c = record {
-      is = rw (ne-eqb _ _ (c .before .before .before .if1 .left), ne-eqb _ _ (c .before .if2 .left), lt-leb _ _ (c .if4 .left));
-      small = tt;
-    }
+  is = rw (ne-eqb _ _ (c .before .before .before .if1 .left), ne-eqb _ _ (c .before .if2 .left), lt-leb _ _ (c .if4 .left));
+  small = tt;
+}
 
 pub whole-spec : {M : Type 1} → statement M
 whole-spec =

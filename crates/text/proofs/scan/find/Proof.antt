@@ -39,11 +39,12 @@ loop-again : tie.Need-loop-again Inv-loop μ-loop
 loop-again c =
     let l = c .before .before .before .loop in
     let t = c .before .before .before .before .args .t .now in
-    let h : l .i < length t = c .before .before .loop-test .taken in
-    (search needs,
-    λ r k.
-      rw (add-one, suc-add, ← add-suc)
-      (l .inv .1 (suc r) (rw (drop-cons t (l .i) 0) (first-later _ _ _ r (c .if1 .left) (rw add-one at k)))))
+    let h : l .i < length t = c .before .before .loop-test .taken in (
+      search needs,
+      λ r k.
+          rw (add-one, suc-add, ← add-suc)
+          (l .inv .1 (suc r) (rw (drop-cons t (l .i) 0) (first-later _ _ _ r (c .if1 .left) (rw add-one at k)))),
+    )
 
 returns-2 : tie.Need-returns-2 Inv-loop μ-loop
 returns-2 c =
