@@ -1,5 +1,6 @@
 // The text file: reading it into two lent tables.
 mod constants;
+mod field;
 mod mark;
 mod number;
 mod scan;

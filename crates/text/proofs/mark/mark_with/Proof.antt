@@ -11,7 +11,7 @@ returns : tie.Need-returns
 unfolding markWith
 returns c =
     rw
-      (← c .before .spells .ensures, c .if1 .taken)
+    (← c .before .spells .ensures, c .if1 .taken)
 
 spells-requires-2 : tie.Need-spells-requires-2
 spells-requires-2 c κs = search needs
@@ -19,9 +19,12 @@ spells-requires-2 c κs = search needs
 returns-2 : tie.Need-returns-2
 unfolding markWith
 returns-2 c =
-    rw
-      (← c .before .before .before .spells .ensures, c .before .before .if1 .left,
-        ← c .before .spells2 .ensures, c .if2 .taken)
+    rw (
+      ← c .before .before .before .spells .ensures,
+      c .before .before .if1 .left,
+      ← c .before .spells2 .ensures,
+      c .if2 .taken,
+    )
 
 spells-requires-3 : tie.Need-spells-requires-3
 spells-requires-3 c κs = search needs
@@ -29,10 +32,14 @@ spells-requires-3 c κs = search needs
 returns-3 : tie.Need-returns-3
 unfolding markWith
 returns-3 c =
-    rw
-      (← c .before .before .before .before .before .spells .ensures, c .before .before .before .before .if1 .left,
-        ← c .before .before .before .spells2 .ensures, c .before .before .if2 .left,
-        ← c .before .spells3 .ensures, c .if3 .taken)
+    rw (
+      ← c .before .before .before .before .before .spells .ensures,
+      c .before .before .before .before .if1 .left,
+      ← c .before .before .before .spells2 .ensures,
+      c .before .before .if2 .left,
+      ← c .before .spells3 .ensures,
+      c .if3 .taken,
+    )
 
 spells-requires-4 : tie.Need-spells-requires-4
 spells-requires-4 c κs = search needs
@@ -40,11 +47,16 @@ spells-requires-4 c κs = search needs
 returns-4 : tie.Need-returns-4
 unfolding markWith
 returns-4 c =
-    rw
-      (← c .before .before .before .before .before .before .before .spells .ensures, c .before .before .before .before .before .before .if1 .left,
-        ← c .before .before .before .before .before .spells2 .ensures, c .before .before .before .before .if2 .left,
-        ← c .before .before .before .spells3 .ensures, c .before .before .if3 .left,
-        ← c .before .spells4 .ensures, c .if4 .taken)
+    rw (
+      ← c .before .before .before .before .before .before .before .spells .ensures,
+      c .before .before .before .before .before .before .if1 .left,
+      ← c .before .before .before .before .before .spells2 .ensures,
+      c .before .before .before .before .if2 .left,
+      ← c .before .before .before .spells3 .ensures,
+      c .before .before .if3 .left,
+      ← c .before .spells4 .ensures,
+      c .if4 .taken,
+    )
 
 spells-requires-5 : tie.Need-spells-requires-5
 spells-requires-5 c κs = search needs
@@ -52,12 +64,18 @@ spells-requires-5 c κs = search needs
 returns-5 : tie.Need-returns-5
 unfolding markWith
 returns-5 c =
-    rw
-      (← c .before .before .before .before .before .before .before .before .before .spells .ensures, c .before .before .before .before .before .before .before .before .if1 .left,
-        ← c .before .before .before .before .before .before .before .spells2 .ensures, c .before .before .before .before .before .before .if2 .left,
-        ← c .before .before .before .before .before .spells3 .ensures, c .before .before .before .before .if3 .left,
-        ← c .before .before .before .spells4 .ensures, c .before .before .if4 .left,
-        ← c .before .spells5 .ensures, c .if5 .taken)
+    rw (
+      ← c .before .before .before .before .before .before .before .before .before .spells .ensures,
+      c .before .before .before .before .before .before .before .before .if1 .left,
+      ← c .before .before .before .before .before .before .before .spells2 .ensures,
+      c .before .before .before .before .before .before .if2 .left,
+      ← c .before .before .before .before .before .spells3 .ensures,
+      c .before .before .before .before .if3 .left,
+      ← c .before .before .before .spells4 .ensures,
+      c .before .before .if4 .left,
+      ← c .before .spells5 .ensures,
+      c .if5 .taken,
+    )
 
 spells-requires-6 : tie.Need-spells-requires-6
 spells-requires-6 c κs = search needs
@@ -65,13 +83,20 @@ spells-requires-6 c κs = search needs
 returns-6 : tie.Need-returns-6
 unfolding markWith
 returns-6 c =
-    rw
-      (← c .before .before .before .before .before .before .before .before .before .before .before .spells .ensures, c .before .before .before .before .before .before .before .before .before .before .if1 .left,
-        ← c .before .before .before .before .before .before .before .before .before .spells2 .ensures, c .before .before .before .before .before .before .before .before .if2 .left,
-        ← c .before .before .before .before .before .before .before .spells3 .ensures, c .before .before .before .before .before .before .if3 .left,
-        ← c .before .before .before .before .before .spells4 .ensures, c .before .before .before .before .if4 .left,
-        ← c .before .before .before .spells5 .ensures, c .before .before .if5 .left,
-        ← c .before .spells6 .ensures, c .if6 .taken)
+    rw (
+      ← c .before .before .before .before .before .before .before .before .before .before .before .spells .ensures,
+      c .before .before .before .before .before .before .before .before .before .before .if1 .left,
+      ← c .before .before .before .before .before .before .before .before .before .spells2 .ensures,
+      c .before .before .before .before .before .before .before .before .if2 .left,
+      ← c .before .before .before .before .before .before .before .spells3 .ensures,
+      c .before .before .before .before .before .before .if3 .left,
+      ← c .before .before .before .before .before .spells4 .ensures,
+      c .before .before .before .before .if4 .left,
+      ← c .before .before .before .spells5 .ensures,
+      c .before .before .if5 .left,
+      ← c .before .spells6 .ensures,
+      c .if6 .taken,
+    )
 
 spells-requires-7 : tie.Need-spells-requires-7
 spells-requires-7 c κs = search needs
@@ -79,26 +104,42 @@ spells-requires-7 c κs = search needs
 returns-7 : tie.Need-returns-7
 unfolding markWith
 returns-7 c =
-    rw
-      (← c .before .before .before .before .before .before .before .before .before .before .before .before .before .spells .ensures, c .before .before .before .before .before .before .before .before .before .before .before .before .if1 .left,
-        ← c .before .before .before .before .before .before .before .before .before .before .before .spells2 .ensures, c .before .before .before .before .before .before .before .before .before .before .if2 .left,
-        ← c .before .before .before .before .before .before .before .before .before .spells3 .ensures, c .before .before .before .before .before .before .before .before .if3 .left,
-        ← c .before .before .before .before .before .before .before .spells4 .ensures, c .before .before .before .before .before .before .if4 .left,
-        ← c .before .before .before .before .before .spells5 .ensures, c .before .before .before .before .if5 .left,
-        ← c .before .before .before .spells6 .ensures, c .before .before .if6 .left,
-        ← c .before .spells7 .ensures, c .if7 .taken)
+    rw (
+      ← c .before .before .before .before .before .before .before .before .before .before .before .before .before .spells .ensures,
+      c .before .before .before .before .before .before .before .before .before .before .before .before .if1 .left,
+      ← c .before .before .before .before .before .before .before .before .before .before .before .spells2 .ensures,
+      c .before .before .before .before .before .before .before .before .before .before .if2 .left,
+      ← c .before .before .before .before .before .before .before .before .before .spells3 .ensures,
+      c .before .before .before .before .before .before .before .before .if3 .left,
+      ← c .before .before .before .before .before .before .before .spells4 .ensures,
+      c .before .before .before .before .before .before .if4 .left,
+      ← c .before .before .before .before .before .spells5 .ensures,
+      c .before .before .before .before .if5 .left,
+      ← c .before .before .before .spells6 .ensures,
+      c .before .before .if6 .left,
+      ← c .before .spells7 .ensures,
+      c .if7 .taken,
+    )
 
 returns-8 : tie.Need-returns-8
 unfolding markWith
 returns-8 c =
-    rw
-      (← c .before .before .before .before .before .before .before .before .before .before .before .before .before .spells .ensures, c .before .before .before .before .before .before .before .before .before .before .before .before .if1 .left,
-        ← c .before .before .before .before .before .before .before .before .before .before .before .spells2 .ensures, c .before .before .before .before .before .before .before .before .before .before .if2 .left,
-        ← c .before .before .before .before .before .before .before .before .before .spells3 .ensures, c .before .before .before .before .before .before .before .before .if3 .left,
-        ← c .before .before .before .before .before .before .before .spells4 .ensures, c .before .before .before .before .before .before .if4 .left,
-        ← c .before .before .before .before .before .spells5 .ensures, c .before .before .before .before .if5 .left,
-        ← c .before .before .before .spells6 .ensures, c .before .before .if6 .left,
-        ← c .before .spells7 .ensures, c .if7 .left)
+    rw (
+      ← c .before .before .before .before .before .before .before .before .before .before .before .before .before .spells .ensures,
+      c .before .before .before .before .before .before .before .before .before .before .before .before .if1 .left,
+      ← c .before .before .before .before .before .before .before .before .before .before .before .spells2 .ensures,
+      c .before .before .before .before .before .before .before .before .before .before .if2 .left,
+      ← c .before .before .before .before .before .before .before .before .before .spells3 .ensures,
+      c .before .before .before .before .before .before .before .before .if3 .left,
+      ← c .before .before .before .before .before .before .before .spells4 .ensures,
+      c .before .before .before .before .before .before .if4 .left,
+      ← c .before .before .before .before .before .spells5 .ensures,
+      c .before .before .before .before .if5 .left,
+      ← c .before .before .before .spells6 .ensures,
+      c .before .before .if6 .left,
+      ← c .before .spells7 .ensures,
+      c .if7 .left,
+    )
 
 pub mark-with-spec : {M : Type 1} → statement M
 mark-with-spec =
