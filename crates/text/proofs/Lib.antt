@@ -2,3 +2,4 @@ pub mod PartLaws
 pub mod NumberLaws
 pub mod MarkLaws
 pub mod FieldLaws
+pub mod LineLaws

@@ -1,12 +1,16 @@
 -- What private functions say beside the page's definitions: sizes and shapes that only their callers and loops want.
-use Prim.Native.Nat.{ℕ, _^_, _<_}
+use Prim.Native.Nat.{ℕ, _+_, _^_, _≤_, _<_}
 use mathlib.Core.Path.{_≡_}
+use mathlib.Core.Bool.{cond}
 use mathlib.Core.List.{List}
 use lib.ListN.{length}
-use Rattle.text.specs.Constants.{numberDigits}
+use Rattle.faults.specs.declared.Fault.{Fault}
+use Rattle.faults.specs.declared.Fault.the-variants as fault
+use Rattle.text.specs.Constants.{numberDigits, fileLimit}
 use Rattle.text.specs.Number.{spelt, whole, numberOf}
 use Rattle.text.specs.declared.terms.Spelt.{Spelt}
 use Rattle.text.specs.declared.terms.Spelt.the-variants.{Of, Not}
+use Rattle.text.specs.declared.terms.ReaderState.{ReaderState}
 
 -- a number below k, or none
 abbrev pub Under : ℕ → Spelt → Type 0
@@ -27,3 +31,11 @@ pub record WholeRead (k : ℕ) (l : List ℕ) (r : Spelt) : Type 0 where
 pub record NumberRead (l : List ℕ) (r : Spelt) : Type 0 where
   pub is : r ≡ numberOf l
   pub small : Under (10 ^ numberDigits) r
+
+-- no more records than a file has bytes
+pub record Few (state : ReaderState) : Type 0 where
+  pub few : state .vertices + state .elements ≤ fileLimit
+
+-- the fault of a line that lacks its byte 10: MARK after EN, else SHAPE
+abbrev pub openFault : ReaderState → Fault
+openFault state = cond (state .ended) fault.Mark fault.Shape
