@@ -3,3 +3,4 @@ pub mod NumberLaws
 pub mod MarkLaws
 pub mod FieldLaws
 pub mod LineLaws
+pub mod FileLaws

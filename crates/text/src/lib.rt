@@ -1,6 +1,7 @@
 // The text file: reading it into two lent tables.
 mod constants;
 mod field;
+mod file;
 mod line;
 mod mark;
 mod number;
