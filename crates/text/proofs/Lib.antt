@@ -5,3 +5,4 @@ pub mod FieldLaws
 pub mod LineLaws
 pub mod FileLaws
 pub mod RecordLaws
+pub mod ReadLaws
