@@ -5,9 +5,9 @@ use native.Mathlib.Nat.{lt-of-lt-of-le, pow-le-pow-right}
 use native.Mathlib.Numerals.{add-one}
 use native.Mathlib.Omega.{arith}
 use mathlib.Core.Path.{_≡_, refl, ap, _∙_}
-use mathlib.Core.Bool.{Bool}
+use mathlib.Core.Bool.{Bool, true, false, cond}
 use mathlib.Core.List.{List}
-use lib.Dec.{lit<}
+use lib.Dec.{leb, lit<}
 use lib.ListN.{length, drop, getD, drop-of-length-le}
 use lib.Seq.{drop-cons}
 use lib.IntN.{ℤ, pos, negℤ, _-ℤ_, +ℤ-idl}
@@ -15,10 +15,10 @@ use lib.Signed.{mag}
 use mir.Syntax.{w32}
 use mir.Val.{SFits, toZ, ofZ}
 use mir.ValLaws.{toZ-pos, toZ-ofZ}
-use borrow.Author.Tests.{le-leb, lt-leb}
+use borrow.Author.Tests.{leb-true}
 use Rattle.faults.specs.declared.Fault.the-variants as fault
 use Rattle.text.specs.Constants.{digit0, digit9, coordinateLimit}
-use Rattle.text.specs.Number.{spelt, millimetres}
+use Rattle.text.specs.Number.{appended, spelt, millimetres}
 use Rattle.text.specs.Loops.{Under}
 use Rattle.text.specs.declared.terms.Spelt.{Spelt}
 use Rattle.text.specs.declared.terms.Spelt.the-variants.{Of, Not}
@@ -27,24 +27,32 @@ use Rattle.text.specs.declared.terms.Coordinate.the-variants.{Wrong}
 -- ---- a run of digits, by its byte at i
 
 module _ (t : List ℕ) (n i : ℕ) (h : i < length t) where
-  pub spelt-low : getD t i 0 < digit0 → spelt n (drop i t) ≡ Not
+  pub spelt-not : appended n (getD t i 0) ≡ Not → spelt n (drop i t) ≡ Not
   unfolding spelt
-  spelt-low k = rw (drop-cons t i 0, lt-leb _ _ k)
+  spelt-not e = rw (drop-cons t i 0, e)
 
-  pub spelt-high : digit0 ≤ getD t i 0 → digit9 < getD t i 0 → spelt n (drop i t) ≡ Not
+  pub spelt-on : (m : ℕ) → appended n (getD t i 0) ≡ Of m → spelt n (drop i t) ≡ spelt m (drop (i + 1) t)
   unfolding spelt
-  spelt-high j k = rw (drop-cons t i 0, le-leb _ _ j, lt-leb _ _ k)
-
-  pub spelt-digit : digit0 ≤ getD t i 0 → getD t i 0 ≤ digit9
-      → spelt n (drop i t) ≡ spelt (n * 10 + (getD t i 0 - digit0)) (drop (i + 1) t)
-  unfolding spelt
-  spelt-digit j k = rw (drop-cons t i 0, le-leb _ _ j, le-leb _ _ k, add-one)
+  spelt-on m e = rw (drop-cons t i 0, e, add-one)
 
 pub spelt-end : (t : List ℕ) (n i : ℕ) → length t ≤ i → spelt n (drop i t) ≡ Of n
 unfolding spelt
 spelt-end t n i h = rw (drop-of-length-le t h)
 
 -- ---- how large
+
+-- one digit more, ten times as large
+pub appended-small : (n x m : ℕ) → appended n x ≡ Of m → m < (n + 1) * 10
+unfolding appended
+appended-small n x m = by (leb digit0 x) (leb x digit9) refl
+  where
+    by : (a b : Bool) → leb x digit9 ≡ b → cond a (cond b (Of (n * 10 + (x - digit0))) Not) Not ≡ Of m → m < (n + 1) * 10
+    by true true q e =
+        let h = leb-true x digit9 q in
+        let z : n * 10 + (x - digit0) ≡ m = cc in
+        omega arith
+    by true false q e = let z : _≡_ {A = ℕ} 0 1 = cc in absurd (omega arith)
+    by false b q e = let z : _≡_ {A = ℕ} 0 1 = cc in absurd (omega arith)
 
 -- fewer digits, a smaller number
 pub under-pow : (j k : ℕ) (r : Spelt) → j ≤ k → Under (10 ^ j) r → Under (10 ^ k) r

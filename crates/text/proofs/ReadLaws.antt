@@ -2,7 +2,7 @@
 -- Assumes nothing.
 use Prim.Native.Nat.{ℕ, _+_, _≤_, zero-le}
 use native.Mathlib.Omega.{arith}
-use mathlib.Core.Path.{_≡_, refl, sym, ap, _∙_}
+use mathlib.Core.Path.{_≡_, refl, ap, _∙_}
 use mathlib.Core.Bool.{Bool, true, false, cond}
 use mathlib.Core.List.{List, [], _∷_}
 use lib.Dec.{ltb}
@@ -11,7 +11,7 @@ use lib.Seq.{sets}
 use lib.IntN.{ℤ}
 use borrow.Author.Tests.{ltb-false}
 use Rattle.laws.specs.Lent.{laid}
-use Rattle.laws.proofs.LentLaws.{laid-none}
+use Rattle.laws.specs.Pieces.{split}
 use Rattle.faults.specs.Refusals.{Verdict, accepted, refused, refuse, answerOf}
 use Rattle.faults.specs.declared.Fault.the-variants as fault
 use Rattle.faults.specs.declared.Refusal.{Refusal}
@@ -19,8 +19,6 @@ use Rattle.text.specs.Constants.{fileLimit}
 use Rattle.text.specs.File.{start, linesOf, fileFrom, fileVerdict}
 use Rattle.text.specs.Records.{vertexRecords, elementRecords, recordsFrom, ofAccepted, storedVertices, storedElements, verdictOf, roomsOf, ReadDone}
 use Rattle.text.specs.declared.ReadAnswer.{ReadAnswer}
-use Rattle.text.specs.declared.ReadAnswer.the-variants.{Done, Refused}
-use Rattle.text.specs.declared.ReadCounts.{ReadCounts}
 use Rattle.text.specs.declared.terms.Rooms.{Rooms}
 use Rattle.text.specs.Loops.{StoredFile}
 use Rattle.text.proofs.RecordLaws.{sets-laid, vertexPlace, elementPlace, vertex-grows, element-grows, vertex-roomy, element-roomy, records-fit}
@@ -55,26 +53,32 @@ module _ (rooms : Rooms) (file : List ℕ) where
 
 -- ---- the contract
 
-module _ (file : List ℕ) (vertices : List ℤ) (elements : List ℕ) (r : ReadAnswer) (judged : verdictOf r ≡ fileVerdict (roomsOf vertices elements) file) where
-  pub fits-done : (counts : ReadCounts) → r ≡ Done counts → Fitting (roomsOf vertices elements) file
-  unfolding verdictOf
-  fits-done counts e = file-fits (roomsOf vertices elements) file _ (sym judged ∙ ap verdictOf e)
+module _ (file : List ℕ) (vertices : List ℤ) (elements : List ℕ) where
+  -- what is stored of a file is not too long
+  short : (v : Verdict (List ℕ)) → fileVerdict (roomsOf vertices elements) file ≡ v → length (ofAccepted v file) ≤ fileLimit
+  short (accepted cs) e = file-fits (roomsOf vertices elements) file cs e .short
+  short (refused r) e = zero-le
 
-  pub read-done : (counts : ReadCounts) → r ≡ Done counts → (vertices′ : List ℤ) (elements′ : List ℕ)
-      → StoredFile file vertices elements vertices′ elements′ → ReadDone file vertices elements r vertices′ elements′
-  unfolding verdictOf storedVertices storedElements
-  read-done counts e vertices′ elements′ s =
-      let f = fits-done counts e in
-      record {
-        answer = ap (answerOf (0 ∷ 0 ∷ [])) judged;
-        vertexTable = s .vertexTable ∙ rw (← judged, e) (sets-laid _ vertices (f .vertices));
-        elementTable = s .elementTable ∙ rw (← judged, e) (sets-laid _ elements (f .elements));
-      }
+  module _ (vertices′ : List ℤ) (elements′ : List ℕ) where
+    -- storing what is to be stored leaves the records of the file
+    left : (v : Verdict (List ℕ)) → fileVerdict (roomsOf vertices elements) file ≡ v
+        → StoredFile (ofAccepted v file) vertices elements vertices′ elements′
+        → (vertices′ ≡ laid (ofAccepted v (recordsFrom vertexRecords start (linesOf file))) vertices)
+        × (elements′ ≡ laid (ofAccepted v (recordsFrom elementRecords start (linesOf file))) elements)
+    unfolding split recordsFrom laid
+    left (accepted cs) e s =
+        let f = file-fits (roomsOf vertices elements) file cs e in
+        (s .vertexTable ∙ sets-laid (recordsFrom vertexRecords start (linesOf file)) vertices (f .vertices),
+        s .elementTable ∙ sets-laid (recordsFrom elementRecords start (linesOf file)) elements (f .elements))
+    left (refused r) e s = (s .vertexTable, s .elementTable)
 
-  pub read-refused : (q : Refusal) → r ≡ Refused q → ReadDone file vertices elements r vertices elements
-  unfolding verdictOf storedVertices storedElements
-  read-refused q e = record {
-    answer = ap (answerOf (0 ∷ 0 ∷ [])) judged;
-    vertexTable = rw (← judged, e) (sym (laid-none vertices));
-    elementTable = rw (← judged, e) (sym (laid-none elements));
-  }
+  module _ (r : ReadAnswer) (judged : verdictOf r ≡ fileVerdict (roomsOf vertices elements) file) where
+    pub stored-short : length (ofAccepted (verdictOf r) file) ≤ fileLimit
+    stored-short = rw judged (short (fileVerdict (roomsOf vertices elements) file) refl)
+
+    pub read-done : (vertices′ : List ℤ) (elements′ : List ℕ) → StoredFile (ofAccepted (verdictOf r) file) vertices elements vertices′ elements′
+        → ReadDone file vertices elements r vertices′ elements′
+    unfolding storedVertices storedElements
+    read-done vertices′ elements′ s =
+        let q = left vertices′ elements′ (fileVerdict (roomsOf vertices elements) file) refl (rw judged at s) in
+        record { answer = ap (answerOf (0 ∷ 0 ∷ [])) judged; vertexTable = q .0; elementTable = q .1 }

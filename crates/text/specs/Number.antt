@@ -15,10 +15,19 @@ use Rattle.text.specs.declared.terms.Coordinate.the-variants.{Thousandth
 
 -- ---- digits
 
+-- n with the digit x written after it
+unfoldable pub appended : ℕ → ℕ → Spelt
+appended n x = cond (leb digit0 x) (cond (leb x digit9) (Of (n * 10 + (x - digit0))) Not) Not
+
+-- what comes of a number, where there is one
+abbrev pub onto : Spelt → (ℕ → Spelt) → Spelt
+onto (Of n) f = f n
+onto Not f = Not
+
 -- the number that digits spell, where n is spelt before them
 unfoldable pub spelt : ℕ → List ℕ → Spelt
 spelt n [] = Of n
-spelt n (x ∷ xs) = cond (leb digit0 x) (cond (leb x digit9) (spelt (n * 10 + (x - digit0)) xs) Not) Not
+spelt n (x ∷ xs) = onto (appended n x) (λ m. spelt m xs)
 
 -- 0, or one to k digits not starting with 0
 unfoldable pub whole : ℕ → List ℕ → Spelt

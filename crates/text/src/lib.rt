@@ -33,8 +33,6 @@ pub fn read_mesh(file: &[u8], vertices: &mut [i32], elements: &mut [u16]) -> Rea
         elements: elements.len(),
     };
     let answer = file::judge(file, rooms);
-    if let ReadAnswer::Done(_) = answer {
-        store::store_records(file, vertices, elements);
-    }
+    store::store_records(store::to_store(file, answer), vertices, elements);
     answer
 }

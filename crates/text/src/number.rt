@@ -16,12 +16,26 @@ use crate::terms::Coordinate;
 use crate::terms::Spelt;
 use faults::Fault;
 ghost use mathlib.Core.Path.{_≡_};
-ghost use Prim.Native.Nat.{_≤_};
+ghost use Prim.Native.Nat.{_^_, _≤_, _<_};
 ghost use lib.ListN.{length};
 ghost use Rattle.laws.specs.Pieces.{split};
 ghost use Rattle.text.specs.Constants.{point, wholeDigits};
-ghost use Rattle.text.specs.Number.{decimals, millimetres, unsigned, coordinateOf, thousandthsOf, valueOf};
+ghost use Rattle.text.specs.Number.{appended, decimals, millimetres, unsigned, coordinateOf, thousandthsOf, valueOf};
 ghost use Rattle.text.specs.Loops.{DigitsRead, WholeRead, NumberRead};
+
+// n with the digit x written after it.
+fn appended(n: u32, x: u8) -> Spelt
+    requires { ⌜ n < 10 ^ 6 ⌝ }
+    ensures { λ r. ⌜ r ≡ appended n x ⌝ }
+{
+    if x < ZERO {
+        return Spelt::Not;
+    }
+    if x > NINE {
+        return Spelt::Not;
+    }
+    Spelt::Of(n * 10 + (x - ZERO) as u32)
+}
 
 // The number that at most six digits spell.
 fn digits(t: &[u8]) -> Spelt
@@ -31,14 +45,12 @@ fn digits(t: &[u8]) -> Spelt
     let mut n: u32 = 0;
     let mut i = 0;
     while i < t.len() {
-        let x = t[i];
-        if x < ZERO {
-            return Spelt::Not;
+        match appended(n, t[i]) {
+            Spelt::Of(m) => {
+                n = m;
+            }
+            Spelt::Not => return Spelt::Not,
         }
-        if x > NINE {
-            return Spelt::Not;
-        }
-        n = n * 10 + (x - ZERO) as u32;
         i += 1;
     }
     Spelt::Of(n)

@@ -1,4 +1,5 @@
 // The records of the lines, stored in the two lent tables, each in the state before its line.
+use crate::ReadAnswer;
 use crate::constants::ELEMENT_WIDTH;
 use crate::constants::LINE_END;
 use crate::constants::SPACE;
@@ -23,7 +24,7 @@ ghost use lib.ListN.{length, set};
 ghost use lib.Seq.{sets};
 ghost use Rattle.laws.specs.Pieces.{split};
 ghost use Rattle.text.specs.Constants.{space, fileLimit, vertexWidth, elementWidth};
-ghost use Rattle.text.specs.Records.{vertexRecord, elementRecord, vertexRecords, elementRecords};
+ghost use Rattle.text.specs.Records.{vertexRecord, elementRecord, vertexRecords, elementRecords, ofAccepted, verdictOf};
 ghost use Rattle.text.specs.Loops.{Few, StoredLine, StoredFile};
 
 // A coordinate at place i of a table, which is left alone where it has no such place.
@@ -128,6 +129,16 @@ fn store_line(
     store_vertex(l, role, state, vertices);
     store_element(l, role, state, elements);
     after(state, role)
+}
+
+// What of a file is stored: all of an accepted one, nothing of a refused one.
+pub fn to_store(file: &[u8], answer: ReadAnswer) -> &[u8]
+    ensures { λ r. ⌜ now r ≡ ofAccepted (verdictOf answer) (now (file .entry)) ⌝ }
+{
+    match answer {
+        ReadAnswer::Done(_) => file,
+        ReadAnswer::Refused(_) => until(file, 0),
+    }
 }
 
 // The records of a file, from the front of both tables.

@@ -1,15 +1,16 @@
 -- `text::number::digits` spells a number. Invariant: the whole spells what the rest from i on spells after n, and n has at most i digits.
 -- Assumes nothing.
 use Prim.Native.Nat.{_-_, _^_, _≤_, _<_}
-use native.Mathlib.Nat.{pow-suc, pow-le-pow-right, lt-of-lt-of-le}
+use native.Mathlib.Nat.{pow-suc, pow-le-pow-right, lt-of-lt-of-le, le-of-lt}
 use native.Mathlib.Numerals.{add-one}
 use native.Mathlib.Omega.{arith}
 use mathlib.Core.Path.{_≡_, refl, sym, _∙_}
 use borrow.Author.Needs.{needs}
 use lib.Dec.{lit<}
 use lib.ListN.{length, drop}
+use Rattle.text.specs.Constants.{wholeDigits}
 use Rattle.text.specs.Number.{spelt}
-use Rattle.text.proofs.NumberLaws.{spelt-low, spelt-high, spelt-digit, spelt-end}
+use Rattle.text.proofs.NumberLaws.{spelt-not, spelt-on, spelt-end, appended-small}
 use Rattle.text.proofs.number.digits.Statement.{statement}
 use Rattle.text.proofs.number.digits.Tie as tie
 
@@ -22,37 +23,28 @@ abbrev μ-loop : tie.MeasureT-loop
 loop-holds : tie.Need-loop-holds Inv-loop μ-loop
 loop-holds c = (search needs, lit< tt, refl)
 
-shared-slice-read-x : tie.Need-shared-slice-read-x Inv-loop μ-loop
-shared-slice-read-x c = search needs
+shared-slice-read-appended : tie.Need-shared-slice-read-appended Inv-loop μ-loop
+shared-slice-read-appended c = search needs
+
+appended-requires : tie.Need-appended-requires Inv-loop μ-loop
+appended-requires c κs =
+    let l = c .before .before .loop in
+    let h : l .i ≤ wholeDigits = omega (arith, c .before .loop-test .taken, c .before .before .before .before .pre) in
+    lt-of-lt-of-le (l .inv .1) (pow-le-pow-right (lit< tt) h)
+
+enum-known-m : tie.Need-enum-known-m Inv-loop μ-loop
+enum-known-m c = search needs
+
+enum-told : tie.Need-enum-told Inv-loop μ-loop
+enum-told c = search needs
 
 returns : tie.Need-returns Inv-loop μ-loop
 returns c =
-    let l = c .before .before .before .loop in
-    record { is = sym (l .inv .2 ∙ spelt-low _ _ _ (c .before .before .loop-test .taken) (c .if1 .taken)); small = tt }
-
-returns-2 : tie.Need-returns-2 Inv-loop μ-loop
-returns-2 c =
-    let l = c .before .before .before .before .loop in
+    let l = c .before .before .before .before .before .loop in
     record {
-      is = sym (l .inv .2 ∙ spelt-high _ _ _ (c .before .before .before .loop-test .taken) (c .before .if1 .left) (c .if2 .taken));
+      is = sym (l .inv .2 ∙ spelt-not _ _ _ (c .before .before .before .before .loop-test .taken) (sym (c .before .before .appended .ensures) ∙ c .enum-told .given .1));
       small = tt;
     }
-
--- n has at most five digits in a turn
-five : (c : tie.Else2 Inv-loop μ-loop) → c .before .before .before .before .loop .n < 10 ^ 5
-five c =
-    let l = c .before .before .before .before .loop in
-    let h : l .i ≤ 5 = omega (arith, c .before .before .before .loop-test .taken, c .before .before .before .before .before .pre) in
-    lt-of-lt-of-le (l .inv .1) (pow-le-pow-right (lit< tt) h)
-
-mul-n : tie.Need-mul-n Inv-loop μ-loop
-mul-n c = omega (arith, five c)
-
-cast-n : tie.Need-cast-n Inv-loop μ-loop
-cast-n c = search needs
-
-add-n : tie.Need-add-n Inv-loop μ-loop
-add-n c = omega (arith, five c)
 
 add-i : tie.Need-add-i Inv-loop μ-loop
 add-i c = search needs
@@ -62,14 +54,15 @@ loop-less c = search needs
 
 loop-again : tie.Need-loop-again Inv-loop μ-loop
 loop-again c =
-    let l = c .before .before .before .before .loop in (
+    let l = c .before .before .before .before .before .before .loop in
+    let e = sym (c .before .before .before .appended .ensures) ∙ c .before .m .given .1 in (
       search needs,
-      rw (add-one, pow-suc) (omega arith),
-      l .inv .2 ∙ spelt-digit _ _ _ (c .before .before .before .loop-test .taken) (c .before .if1 .left) (c .if2 .left),
+      rw (add-one, pow-suc) (omega (arith, appended-small _ _ _ e)),
+      l .inv .2 ∙ spelt-on _ _ _ (c .before .before .before .before .before .loop-test .taken) _ e,
     )
 
-returns-3 : tie.Need-returns-3 Inv-loop μ-loop
-returns-3 c =
+returns-2 : tie.Need-returns-2 Inv-loop μ-loop
+returns-2 c =
     let l = c .before .loop in
     record {
       is = sym (l .inv .2 ∙ spelt-end _ _ _ (c .loop-test .left));
@@ -83,13 +76,12 @@ digits-spec =
     Inv-loop
     μ-loop
     loop-holds
-    shared-slice-read-x
+    shared-slice-read-appended
+    appended-requires
+    enum-known-m
+    enum-told
     returns
-    returns-2
-    mul-n
-    cast-n
-    add-n
     add-i
     loop-less
     loop-again
-    returns-3)
+    returns-2)
