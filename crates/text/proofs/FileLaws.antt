@@ -26,8 +26,9 @@ use Rattle.text.specs.declared.terms.Line.the-variants.{Next, No}
 
 -- ---- an accepted line
 
--- its record has room, and the state after it is the next
+-- its record is within the limit and has room, and the state after it is the next
 pub record Taken (rooms : Rooms) (state : ReaderState) (l : List ℕ) (next : ReaderState) : Type 0 where
+  pub few : tooMany state (roleOf (markOf l)) ≡ false
   pub room : noRoom rooms state (roleOf (markOf l)) ≡ false
   pub same : next ≡ after state l
 
@@ -35,7 +36,9 @@ no-next : {X : Type 0} (f : Fault) (s : ReaderState) → No f ≡ Next s → X
 no-next f s h = let z : _≡_ {A = ℕ} 0 1 = cc in absurd (omega arith)
 
 module _ (rooms : Rooms) (state : ReaderState) (l : List ℕ) (next : ReaderState) where
-  through : (a b c d e : Bool) (j : Judged) (g h : Bool) → noRoom rooms state (roleOf (markOf l)) ≡ g
+  through : (a b c d e : Bool) (j : Judged) (g h : Bool)
+      → tooMany state (roleOf (markOf l)) ≡ d
+      → noRoom rooms state (roleOf (markOf l)) ≡ g
       → given a fault.Mark
       (given b fault.Shape
       (given c fault.Mark
@@ -44,22 +47,22 @@ module _ (rooms : Rooms) (state : ReaderState) (l : List ℕ) (next : ReaderStat
       (judged j (given g fault.Room (given h fault.End (Next (after state l)))))))))
       ≡ Next next
       → Taken rooms state l next
-  through true b c d e j g h q n = no-next fault.Mark next n
-  through false true c d e j g h q n = no-next fault.Shape next n
-  through false false true d e j g h q n = no-next fault.Mark next n
-  through false false false true e j g h q n = no-next fault.Many next n
-  through false false false false true j g h q n = no-next fault.Shape next n
-  through false false false false false (Failed f) g h q n = no-next f next n
-  through false false false false false Passed true h q n = no-next fault.Room next n
-  through false false false false false Passed false true q n = no-next fault.End next n
-  through false false false false false Passed false false q n = record { room = q; same = cc }
+  through true b c d e j g h m q n = no-next fault.Mark next n
+  through false true c d e j g h m q n = no-next fault.Shape next n
+  through false false true d e j g h m q n = no-next fault.Mark next n
+  through false false false true e j g h m q n = no-next fault.Many next n
+  through false false false false true j g h m q n = no-next fault.Shape next n
+  through false false false false false (Failed f) g h m q n = no-next f next n
+  through false false false false false Passed true h m q n = no-next fault.Room next n
+  through false false false false false Passed false true m q n = no-next fault.End next n
+  through false false false false false Passed false false m q n = record { few = m; room = q; same = cc }
 
   pub line-taken : (closed : Bool) → lineVerdict rooms state closed l ≡ Next next → Taken rooms state l next
   unfolding lineVerdict
   line-taken closed =
       through (state .ended) (not closed) (badMark state (roleOf (markOf l))) (tooMany state (roleOf (markOf l)))
       (badShape (wants (markOf l)) l) (fieldsVerdict state (roleOf (markOf l)) (fieldsOf l))
-      (noRoom rooms state (roleOf (markOf l))) (badCounts state (roleOf (markOf l)) (fieldsOf l)) refl
+      (noRoom rooms state (roleOf (markOf l))) (badCounts state (roleOf (markOf l)) (fieldsOf l)) refl refl
 
 -- a line gives at most one record
 role-few : (state : ReaderState) (role : Role)
@@ -89,10 +92,16 @@ module _ (rooms : Rooms) (state : ReaderState) (n : ℕ) where
   either true next = refl
   either false next = refl
 
+  -- a line without its byte 10 is refused
+  pub open-refused : (l : List ℕ) (next : ReaderState → Verdict (List ℕ))
+      → onward (lineVerdict rooms state false l) n next ≡ refused (refuse (openFault state) n)
+  unfolding lineVerdict
+  open-refused l next = either (state .ended) next
+
   cut-off : (t : List ℕ) → 0 < length t → fileFrom rooms state n (rest t) ≡ refused (refuse (openFault state) n)
-  unfolding fileFrom lineVerdict
+  unfolding fileFrom
   cut-off [] h = absurd (omega arith)
-  cut-off (x ∷ t) h = either (state .ended) (λ s. atEnd s (n + 1))
+  cut-off (x ∷ t) h = open-refused (x ∷ t) (λ s. atEnd s (n + 1))
 
   module _ (t : List ℕ) (r : ℕ) (k : FirstAt lineEnd t r) where
     -- the last line lacks its byte 10

@@ -6,3 +6,4 @@ pub mod LineLaws
 pub mod FileLaws
 pub mod RecordLaws
 pub mod ReadLaws
+pub mod AcceptedLaws

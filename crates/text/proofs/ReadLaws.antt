@@ -1,4 +1,4 @@
--- Reading as a whole: an accepted file's records fit both tables, and what judging and storing leave meets the contract.
+-- Reading as a whole: what judging and storing leave meets the contract.
 -- Assumes nothing.
 use Prim.Native.Nat.{ℕ, _+_, _≤_, zero-le}
 use native.Mathlib.Omega.{arith}
@@ -21,37 +21,8 @@ use Rattle.text.specs.Records.{vertexRecords, elementRecords, recordsFro
 use Rattle.text.specs.declared.ReadAnswer.{ReadAnswer}
 use Rattle.text.specs.declared.terms.Rooms.{Rooms}
 use Rattle.text.specs.Loops.{StoredFile}
-use Rattle.text.proofs.RecordLaws.{sets-laid, vertexPlace, elementPlace, vertex-grows, element-grows, vertex-roomy, element-roomy, records-fit}
-
--- ---- an accepted file
-
--- it is not too long, and its records fit
-pub record Fitting (rooms : Rooms) (file : List ℕ) : Type 0 where
-  pub short : length file ≤ fileLimit
-  pub vertices : length (recordsFrom vertexRecords start (linesOf file)) ≤ rooms .vertices
-  pub elements : length (recordsFrom elementRecords start (linesOf file)) ≤ rooms .elements
-
-module _ (rooms : Rooms) (file : List ℕ) where
-  no-accept : {X : Type 0} (r : Refusal) (cs : List ℕ) → refused r ≡ accepted cs → X
-  no-accept r cs h = let z : _≡_ {A = ℕ} 0 1 = cc in absurd (omega arith)
-
-  lines-fit : (cs : List ℕ) → length file ≤ fileLimit → fileFrom rooms start 1 (linesOf file) ≡ accepted cs → Fitting rooms file
-  unfolding start
-  lines-fit cs h e =
-      let v = records-fit vertexRecords vertexPlace vertex-grows rooms (rooms .vertices) (vertex-roomy rooms) (linesOf file) start 1 cs zero-le e in
-      let w = records-fit elementRecords elementPlace element-grows rooms (rooms .elements) (element-roomy rooms) (linesOf file) start 1 cs zero-le e in
-      record { short = h; vertices = omega (arith, v); elements = omega (arith, w) }
-
-  by : (cs : List ℕ) (b : Bool) → ltb fileLimit (length file) ≡ b
-      → cond b (refused (refuse fault.Long 0)) (fileFrom rooms start 1 (linesOf file)) ≡ accepted cs → Fitting rooms file
-  by cs true q e = no-accept (refuse fault.Long 0) cs e
-  by cs false q e = lines-fit cs (ltb-false fileLimit (length file) q) e
-
-  pub file-fits : (cs : List ℕ) → fileVerdict rooms file ≡ accepted cs → Fitting rooms file
-  unfolding fileVerdict
-  file-fits cs e = by cs (ltb fileLimit (length file)) refl e
-
--- ---- the contract
+use Rattle.text.proofs.AcceptedLaws.{file-fits}
+use Rattle.text.proofs.RecordLaws.{sets-laid}
 
 module _ (file : List ℕ) (vertices : List ℤ) (elements : List ℕ) where
   -- what is stored of a file is not too long
@@ -68,8 +39,8 @@ module _ (file : List ℕ) (vertices : List ℤ) (elements : List ℕ) where
     unfolding split recordsFrom laid
     left (accepted cs) e s =
         let f = file-fits (roomsOf vertices elements) file cs e in
-        (s .vertexTable ∙ sets-laid (recordsFrom vertexRecords start (linesOf file)) vertices (f .vertices),
-        s .elementTable ∙ sets-laid (recordsFrom elementRecords start (linesOf file)) elements (f .elements))
+        (s .vertexTable ∙ sets-laid (recordsFrom vertexRecords start (linesOf file)) vertices (omega (arith, f .vertices, f .kept .vertexRoom)),
+        s .elementTable ∙ sets-laid (recordsFrom elementRecords start (linesOf file)) elements (omega (arith, f .elements, f .kept .elementRoom)))
     left (refused r) e s = (s .vertexTable, s .elementTable)
 
   module _ (r : ReadAnswer) (judged : verdictOf r ≡ fileVerdict (roomsOf vertices elements) file) where

@@ -1,4 +1,4 @@
--- Laws of records: the records of a line stand after those of the lines before it, and those of an accepted file fit the tables.
+-- Laws of records: the records of a line stand after those of the lines before it.
 -- Each law is stated once, over the records of a table and where they begin, and holds of both tables.
 -- Assumes nothing.
 use Prim.Native.Nat.{ℕ, zero, suc, _+_, _*_, _≤_, _<_}
@@ -7,28 +7,19 @@ use native.Mathlib.Omega.{arith}
 use mathlib.Core.Path.{_≡_, refl, sym, ap, _∙_}
 use mathlib.Core.Bool.{Bool, true, false}
 use mathlib.Core.List.{List, [], _∷_, _++_, map}
-use lib.ListN.{length, take, drop, getD, length-append}
+use lib.ListN.{length, take, drop, getD}
 use lib.Seq.{sets}
-use lib.IntN.{ℤ}
-use borrow.Author.Tests.{ltb-false}
 use Rattle.laws.specs.Pieces.{Pieces, rest, piece, split, FirstAt}
 use Rattle.laws.specs.Lent.{laid}
 use Rattle.laws.proofs.LentLaws.{placed-sets, placed-laid}
-use Rattle.faults.specs.Refusals.{Verdict, accepted, refused, refuse}
-use Rattle.faults.specs.declared.Refusal.{Refusal}
 use Rattle.text.specs.Constants.{lineEnd, vertexWidth, elementWidth, cornerWidth}
 use Rattle.text.specs.Number.{thousandthsOf}
-use Rattle.text.specs.Line.{markOf, roleOf, fieldsOf, numbersOf, noRoom, afterRole, after, lineVerdict}
-use Rattle.text.specs.File.{fileFrom, onward}
+use Rattle.text.specs.Line.{markOf, roleOf, fieldsOf, numbersOf, afterRole, after}
 use Rattle.text.specs.Records.{vertexRecord, tipFirst, cornerFields, elementRecord, vertexRecords, elementRecords, recordsFrom}
 use Rattle.text.specs.declared.terms.Role.{Role}
 use Rattle.text.specs.declared.terms.Role.the-variants.{VertexLine, ElementLine, EndLine, UnknownLine}
 use Rattle.text.specs.declared.terms.ReaderState.{ReaderState}
-use Rattle.text.specs.declared.terms.Rooms.{Rooms}
-use Rattle.text.specs.declared.terms.Line.{Line}
-use Rattle.text.specs.declared.terms.Line.the-variants.{Next, No}
 use Rattle.text.proofs.FieldLaws.{length-first}
-use Rattle.text.proofs.FileLaws.{Taken, line-taken}
 
 -- ---- stores in a row
 
@@ -79,35 +70,6 @@ pub element-grows : (state : ReaderState) (l : List ℕ)
 unfolding after
 element-grows state l = element-role state (roleOf (markOf l)) l
 
--- ---- where there is room for a line's record, the state after it keeps within the table
-
-module _ (rooms : Rooms) where
-  vertex-role-room : (state : ReaderState) (role : Role) → noRoom rooms state role ≡ false → vertexPlace state ≤ rooms .vertices
-      → vertexPlace (afterRole state role) ≤ rooms .vertices
-  unfolding noRoom afterRole
-  vertex-role-room state VertexLine e h = ltb-false _ _ e
-  vertex-role-room state ElementLine e h = h
-  vertex-role-room state EndLine e h = h
-  vertex-role-room state UnknownLine e h = h
-
-  element-role-room : (state : ReaderState) (role : Role) → noRoom rooms state role ≡ false → elementPlace state ≤ rooms .elements
-      → elementPlace (afterRole state role) ≤ rooms .elements
-  unfolding noRoom afterRole
-  element-role-room state VertexLine e h = h
-  element-role-room state ElementLine e h = ltb-false _ _ e
-  element-role-room state EndLine e h = h
-  element-role-room state UnknownLine e h = h
-
-  pub vertex-roomy : (state : ReaderState) (l : List ℕ) → noRoom rooms state (roleOf (markOf l)) ≡ false → vertexPlace state ≤ rooms .vertices
-      → vertexPlace (after state l) ≤ rooms .vertices
-  unfolding after
-  vertex-roomy state l = vertex-role-room state (roleOf (markOf l))
-
-  pub element-roomy : (state : ReaderState) (l : List ℕ) → noRoom rooms state (roleOf (markOf l)) ≡ false → elementPlace state ≤ rooms .elements
-      → elementPlace (after state l) ≤ rooms .elements
-  unfolding after
-  element-roomy state l = element-role-room state (roleOf (markOf l))
-
 -- ---- the records of a table
 
 module _
@@ -137,30 +99,4 @@ module _
           (sets-append (records state (roleOf (markOf (take r t))) (take r t)) _ old (place state)
           ∙ rw (← grows state (take r t), ← e, ← q))
 
-    -- the records of an accepted file fit
-    module _
-        (rooms : Rooms)
-        (room : ℕ)
-        (roomy : (state : ReaderState) (l : List ℕ) → noRoom rooms state (roleOf (markOf l)) ≡ false → place state ≤ room → place (after state l) ≤ room)
-      where
-        no-accept : {X : Type 0} (r : Refusal) (cs : List ℕ) → refused r ≡ accepted cs → X
-        no-accept r cs h = let z : _≡_ {A = ℕ} 0 1 = cc in absurd (omega arith)
-
-        line-fits : (state : ReaderState) (n : ℕ) (l : List ℕ) (p : Pieces) (cs : List ℕ) → place state ≤ room
-            → ((s : ReaderState) → place s ≤ room → fileFrom rooms s (n + 1) p ≡ accepted cs → place s + length (recordsFrom records s p) ≤ room)
-            → (x : Line) → lineVerdict rooms state true l ≡ x → onward x n (λ s. fileFrom rooms s (n + 1) p) ≡ accepted cs
-            → place state + length (recordsFrom records state (piece l p)) ≤ room
-        unfolding recordsFrom
-        line-fits state n l p cs h ih (No f) q e = no-accept (refuse f n) cs e
-        line-fits state n l p cs h ih (Next s) q e =
-            let k = line-taken rooms state l s true q in
-            let i : place (after state l) + length (recordsFrom records (after state l) p) ≤ room =
-            ih (after state l) (roomy state l (k .room) h) (rw (k .same) at e) in
-            simp length-append (omega (arith, grows state l))
-
-        pub records-fit : (p : Pieces) (state : ReaderState) (n : ℕ) (cs : List ℕ) → place state ≤ room
-            → fileFrom rooms state n p ≡ accepted cs → place state + length (recordsFrom records state p) ≤ room
-        unfolding fileFrom recordsFrom
-        records-fit (rest l) state n cs h e = omega arith
-        records-fit (piece l p) state n cs h e =
-            line-fits state n l p cs h (λ s j q. records-fit p s (n + 1) cs j q) (lineVerdict rooms state true l) refl e
+  
