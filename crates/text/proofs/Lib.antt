@@ -7,3 +7,4 @@ pub mod FileLaws
 pub mod RecordLaws
 pub mod ReadLaws
 pub mod AcceptedLaws
+pub mod Theorems

@@ -38,9 +38,10 @@ module _ (file : List ℕ) (vertices : List ℤ) (elements : List ℕ) where
         × (elements′ ≡ laid (ofAccepted v (recordsFrom elementRecords start (linesOf file))) elements)
     unfolding split recordsFrom laid
     left (accepted cs) e s =
-        let f = file-fits (roomsOf vertices elements) file cs e in
-        (s .vertexTable ∙ sets-laid (recordsFrom vertexRecords start (linesOf file)) vertices (omega (arith, f .vertices, f .kept .vertexRoom)),
-        s .elementTable ∙ sets-laid (recordsFrom elementRecords start (linesOf file)) elements (omega (arith, f .elements, f .kept .elementRoom)))
+        let f = file-fits (roomsOf vertices elements) file cs e in (
+          s .vertexTable ∙ sets-laid (recordsFrom vertexRecords start (linesOf file)) vertices (omega (arith, f .vertices, f .kept .vertexRoom)),
+          s .elementTable ∙ sets-laid (recordsFrom elementRecords start (linesOf file)) elements (omega (arith, f .elements, f .kept .elementRoom)),
+        )
     left (refused r) e s = (s .vertexTable, s .elementTable)
 
   module _ (r : ReadAnswer) (judged : verdictOf r ≡ fileVerdict (roomsOf vertices elements) file) where

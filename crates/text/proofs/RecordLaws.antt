@@ -98,5 +98,3 @@ module _
           rw (k .hit h)
           (sets-append (records state (roleOf (markOf (take r t))) (take r t)) _ old (place state)
           ∙ rw (← grows state (take r t), ← e, ← q))
-
-  

@@ -25,7 +25,7 @@ returns : tie.Need-returns
 returns c =
     let a = c .before .before .before .before .before .before .before .before .before .before .args in
     read-done (a .file .now) (a .vertices .now) (a .elements .now) _ (c .before .before .before .before .before .before .before .judge .ensures) _ _
-      (rw (c .before .before .before .before .before .before .to-store .ensures) at (c .before .before .before .store-records .ensures))
+    (rw (c .before .before .before .before .before .before .to-store .ensures) at (c .before .before .before .store-records .ensures))
 
 pub read-mesh-spec : {M : Type 1} → statement M
 read-mesh-spec =
