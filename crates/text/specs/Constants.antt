@@ -67,3 +67,10 @@ elementWidth = 9
 
 abbrev pub cornerWidth : ℕ
 cornerWidth = 8
+
+-- a line starts with a two-byte mark; its fields stand behind that and a space
+abbrev pub markWidth : ℕ
+markWidth = 2
+
+abbrev pub fieldsAt : ℕ
+fieldsAt = 3

@@ -10,7 +10,7 @@ use lib.Dec.{eqb, leb, ltb}
 use Rattle.laws.specs.Pieces.{Pieces, rest, piece, split}
 use Rattle.faults.specs.declared.Fault.{Fault}
 use Rattle.faults.specs.declared.Fault.the-variants as fault
-use Rattle.text.specs.Constants.{space, vertexLimit, elementLimit, vertexWidth, elementWidth, cornerWidth}
+use Rattle.text.specs.Constants.{space, markWidth, fieldsAt, vertexLimit, elementLimit, vertexWidth, elementWidth, cornerWidth}
 use Rattle.text.specs.Number.{coordinateOf, numberOf, valueOf}
 use Rattle.text.specs.declared.terms.Mark.{Mark}
 use Rattle.text.specs.declared.terms.Mark.the-variants.{Vx, Te, Py, Pz, Pr, Hx, En, Unknown}
@@ -85,7 +85,7 @@ roleOf Unknown = UnknownLine
 
 -- what stands after the mark and its space, cut at each space
 unfoldable pub fieldsOf : List ℕ → Pieces
-fieldsOf l = split space (drop 3 l)
+fieldsOf l = split space (drop fieldsAt l)
 
 -- one or more bytes
 abbrev pub some : List ℕ → Bool
@@ -161,7 +161,7 @@ tooMany state UnknownLine = false
 
 -- SHAPE: wrong number of fields, wrong spacing (also right after the mark)
 unfoldable pub badShape : ℕ → List ℕ → Bool
-badShape n l = not (eqb (getD l 2 0) space && areFields n (fieldsOf l))
+badShape n l = not (eqb (getD l markWidth 0) space && areFields n (fieldsOf l))
 
 -- ROOM: a lent table too short for the record
 unfoldable pub noRoom : Rooms → ReaderState → Role → Bool

@@ -31,4 +31,8 @@ pub const VERTEX_WIDTH: usize = 3;
 
 pub const ELEMENT_WIDTH: usize = 9;
 
+pub const CORNER_WIDTH: usize = 8;
+
 pub const MARK_WIDTH: usize = 2;
+
+pub const FIELDS_AT: usize = 3;

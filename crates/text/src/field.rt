@@ -1,4 +1,7 @@
 // The fields of a line: their number and spacing, what each says, and what is wrong with the first that is.
+use crate::constants::CORNER_WIDTH;
+use crate::constants::FIELDS_AT;
+use crate::constants::MARK_WIDTH;
 use crate::constants::SPACE;
 use crate::number::coordinate;
 use crate::number::number;
@@ -46,26 +49,26 @@ fn are_fields(s: &[u8], n: usize) -> bool
 pub fn bad_shape(t: &[u8], n: usize) -> bool
     ensures { λ r. ⌜ r ≡ badShape n (now (t .entry)) ⌝ }
 {
-    if t.len() < 3 {
+    if t.len() < FIELDS_AT {
         return true;
     }
-    if t[2] != SPACE {
+    if t[MARK_WIDTH] != SPACE {
         return true;
     }
-    if are_fields(from(t, 3), n) {
+    if are_fields(from(t, FIELDS_AT), n) {
         return false;
     }
     true
 }
 
 // The numbers of the first eight fields, 0 where there is none.
-pub fn numbers(s: &[u8]) -> [u16; 8]
+pub fn numbers(s: &[u8]) -> [u16; CORNER_WIDTH]
     ensures { λ r. ⌜ r ≡ numbersOf (split space (now (s .entry))) ⌝ }
 {
     let mut t = s;
-    let mut out = [0u16; 8];
+    let mut out = [0u16; CORNER_WIDTH];
     let mut k = 0;
-    while k < 8 {
+    while k < CORNER_WIDTH {
         let r = find(t, SPACE);
         out[k] = value(until(t, r));
         let u = past(t, r);

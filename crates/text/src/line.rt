@@ -1,6 +1,7 @@
 // The verdict on one line, in the page's order of tests, and the state after it.
 use crate::constants::ELEMENT_LIMIT;
 use crate::constants::ELEMENT_WIDTH;
+use crate::constants::FIELDS_AT;
 use crate::constants::VERTEX_LIMIT;
 use crate::constants::VERTEX_WIDTH;
 use crate::field::bad_shape;
@@ -140,7 +141,7 @@ pub fn judge_line(t: &[u8], rooms: Rooms, state: ReaderState) -> Line
     if bad_shape(t, wants(mark) as usize) {
         return Line::No(Fault::Shape);
     }
-    let fields = from(t, 3);
+    let fields = from(t, FIELDS_AT);
     match judge_fields(fields, role, state) {
         Judged::Failed(f) => return Line::No(f),
         Judged::Passed => {}

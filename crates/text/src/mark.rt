@@ -1,4 +1,5 @@
 // The mark of a line, and what it tells: how many fields, and what the line is.
+use crate::constants::MARK_WIDTH;
 use crate::terms::Mark;
 use crate::terms::Role;
 ghost use mathlib.Core.Path.{_≡_};
@@ -49,7 +50,7 @@ fn mark_with(a: u8, b: u8) -> Mark
 pub fn mark_of(t: &[u8]) -> Mark
     ensures { λ r. ⌜ r ≡ markOf (now (t .entry)) ⌝ }
 {
-    if t.len() < 2 {
+    if t.len() < MARK_WIDTH {
         return Mark::Unknown;
     }
     mark_with(t[0], t[1])

@@ -29,7 +29,7 @@ fn appended(n: u32, x: u8) -> Spelt
     ensures { λ r. ⌜ r ≡ appended n x ⌝ }
 {
     if x < ZERO {
-        return Spelt::Not;
+        return Spelt::Not; // a comma too
     }
     if x > NINE {
         return Spelt::Not;

@@ -1,6 +1,7 @@
 // The records of the lines, stored in the two lent tables, each in the state before its line.
 use crate::ReadAnswer;
 use crate::constants::ELEMENT_WIDTH;
+use crate::constants::FIELDS_AT;
 use crate::constants::LINE_END;
 use crate::constants::SPACE;
 use crate::constants::VERTEX_WIDTH;
@@ -63,7 +64,7 @@ fn put_vertex(state: ReaderState, s: &[u8], table: &mut [i32])
 }
 
 // The record of an element line with the fields s.
-fn element_record(state: ReaderState, mark: Mark, s: &[u8]) -> [u16; 9]
+fn element_record(state: ReaderState, mark: Mark, s: &[u8]) -> [u16; ELEMENT_WIDTH]
     ensures { λ r. ⌜ r ≡ elementRecord state mark (split space (now (s .entry))) ⌝ }
 {
     let n = numbers(s);
@@ -75,7 +76,7 @@ fn element_record(state: ReaderState, mark: Mark, s: &[u8]) -> [u16; 9]
 }
 
 // An element record at place `at` of a table.
-fn put_element(element: [u16; 9], at: usize, table: &mut [u16])
+fn put_element(element: [u16; ELEMENT_WIDTH], at: usize, table: &mut [u16])
     requires { ⌜ at + elementWidth < 2 ^ 64 ⌝ }
     ensures { λ _. ⌜ now (table .exit) ≡ sets (now (table .entry)) at element ⌝ }
 {
@@ -92,7 +93,7 @@ fn store_vertex(l: &[u8], role: Role, state: ReaderState, table: &mut [i32])
     ensures { λ _. ⌜ now (table .exit) ≡ sets (now (table .entry)) (vertexWidth * state .vertices) (vertexRecords state role (now (l .entry))) ⌝ }
 {
     match role {
-        Role::VertexLine => put_vertex(state, from(l, 3), table),
+        Role::VertexLine => put_vertex(state, from(l, FIELDS_AT), table),
         Role::ElementLine => {}
         Role::EndLine => {}
         Role::UnknownLine => {}
@@ -107,7 +108,7 @@ fn store_element(l: &[u8], role: Role, state: ReaderState, table: &mut [u16])
     match role {
         Role::VertexLine => {}
         Role::ElementLine => {
-            let element = element_record(state, mark_of(l), from(l, 3));
+            let element = element_record(state, mark_of(l), from(l, FIELDS_AT));
             put_element(element, ELEMENT_WIDTH * state.elements, table)
         }
         Role::EndLine => {}
