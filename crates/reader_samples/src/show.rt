@@ -3,6 +3,8 @@ use faults::number_of;
 use libc::STDOUT_FILENO;
 use text::ReadAnswer;
 use text::read_mesh;
+ghost use mathlib.Core.Path.{_≡_};
+ghost use lib.ListN.{length};
 
 // Numbers that no file can store.
 const VERTEX_CANARY: i32 = -7777777;
@@ -133,24 +135,37 @@ fn say_tables(vertices: &[i32], elements: &[u16]) {
     say(b"\n");
 }
 
-// Reads a file into tables of canaries, of which only the first `vertex_room` and `element_room` numbers are lent.
-pub fn sample_in(name: &[u8], file: &[u8], vertex_room: usize, element_room: usize) {
-    let mut vertices = [VERTEX_CANARY; VERTEX_ROOM];
-    let mut elements = [ELEMENT_CANARY; ELEMENT_ROOM];
-    if vertex_room > VERTEX_ROOM {
+fn vertex_canaries() -> [i32; VERTEX_ROOM]
+    ensures { λ r. ⌜ 12288 ≡ length r ⌝ }
+{
+    [VERTEX_CANARY; VERTEX_ROOM]
+}
+
+fn element_canaries() -> [u16; ELEMENT_ROOM]
+    ensures { λ r. ⌜ 9216 ≡ length r ⌝ }
+{
+    [ELEMENT_CANARY; ELEMENT_ROOM]
+}
+
+// Reads a file into the first `v` and `e` numbers of two tables.
+fn read_into(file: &[u8], vertices: &mut [i32], v: usize, elements: &mut [u16], e: usize) {
+    if v > vertices.len() {
         return;
     }
-    if element_room > ELEMENT_ROOM {
+    if e > elements.len() {
         return;
     }
-    let answer = read_mesh(
-        file,
-        &mut vertices[..vertex_room],
-        &mut elements[..element_room],
-    );
-    say(name);
+    let answer = read_mesh(file, &mut vertices[..v], &mut elements[..e]);
     say_answer(answer);
-    say_tables(&vertices, &elements);
+    say_tables(vertices, elements);
+}
+
+// Reads a file into tables of canaries, of which only the first `v` and `e` numbers are lent.
+pub fn sample_in(name: &[u8], file: &[u8], v: usize, e: usize) {
+    let mut vertices = vertex_canaries();
+    let mut elements = element_canaries();
+    say(name);
+    read_into(file, &mut vertices, v, &mut elements, e);
 }
 
 // Reads a file into tables that are large enough for any.
