@@ -1,0 +1,125 @@
+-- Laws of a file's verdict, as its lines come one after the other, and what an accepted line tells.
+-- Assumes nothing.
+use Prim.Native.Nat.{ℕ, _+_, _≤_, _<_}
+use native.Mathlib.Nat.{le-refl, le-of-eq}
+use native.Mathlib.Omega.{arith}
+use mathlib.Core.Path.{_≡_, refl, sym, ap, _∙_}
+use mathlib.Core.Bool.{Bool, true, false, cond, not}
+use mathlib.Core.List.{List, [], _∷_}
+use lib.ListN.{length, take, drop}
+use Rattle.laws.specs.Pieces.{Pieces, rest, piece, split, FirstAt}
+use Rattle.faults.specs.Refusals.{Verdict, accepted, refused, refuse}
+use Rattle.faults.specs.declared.Fault.{Fault}
+use Rattle.faults.specs.declared.Fault.the-variants as fault
+use Rattle.text.specs.Constants.{lineEnd}
+use Rattle.text.specs.Line.{markOf, roleOf, wants, fieldsOf, fieldsVerdict, badMark, tooMany, badShape, noRoom, badCounts, afterRole, after, given, judged, lineVerdict}
+use Rattle.text.specs.File.{atEnd, onward, fileFrom}
+use Rattle.text.specs.Loops.{openFault}
+use Rattle.text.specs.declared.terms.Role.{Role}
+use Rattle.text.specs.declared.terms.Role.the-variants.{VertexLine, ElementLine, EndLine, UnknownLine}
+use Rattle.text.specs.declared.terms.Judged.{Judged}
+use Rattle.text.specs.declared.terms.Judged.the-variants.{Passed, Failed}
+use Rattle.text.specs.declared.terms.ReaderState.{ReaderState}
+use Rattle.text.specs.declared.terms.Rooms.{Rooms}
+use Rattle.text.specs.declared.terms.Line.{Line}
+use Rattle.text.specs.declared.terms.Line.the-variants.{Next, No}
+
+-- ---- an accepted line
+
+-- its record is within the limit and has room, and the state after it is the next
+pub record Taken (rooms : Rooms) (state : ReaderState) (l : List ℕ) (next : ReaderState) : Type 0 where
+  pub few : tooMany state (roleOf (markOf l)) ≡ false
+  pub room : noRoom rooms state (roleOf (markOf l)) ≡ false
+  pub same : next ≡ after state l
+
+no-next : {X : Type 0} (f : Fault) (s : ReaderState) → No f ≡ Next s → X
+no-next f s h = let z : _≡_ {A = ℕ} 0 1 = cc in absurd (omega arith)
+
+module _ (rooms : Rooms) (state : ReaderState) (l : List ℕ) (next : ReaderState) where
+  through : (a b c d e : Bool) (j : Judged) (g h : Bool)
+      → tooMany state (roleOf (markOf l)) ≡ d
+      → noRoom rooms state (roleOf (markOf l)) ≡ g
+      → given a fault.Mark
+      (given b fault.Shape
+      (given c fault.Mark
+      (given d fault.Many
+      (given e fault.Shape
+      (judged j (given g fault.Room (given h fault.End (Next (after state l)))))))))
+      ≡ Next next
+      → Taken rooms state l next
+  through true b c d e j g h m q n = no-next fault.Mark next n
+  through false true c d e j g h m q n = no-next fault.Shape next n
+  through false false true d e j g h m q n = no-next fault.Mark next n
+  through false false false true e j g h m q n = no-next fault.Many next n
+  through false false false false true j g h m q n = no-next fault.Shape next n
+  through false false false false false (Failed f) g h m q n = no-next f next n
+  through false false false false false Passed true h m q n = no-next fault.Room next n
+  through false false false false false Passed false true m q n = no-next fault.End next n
+  through false false false false false Passed false false m q n = record { few = m; room = q; same = cc }
+
+  pub line-taken : (closed : Bool) → lineVerdict rooms state closed l ≡ Next next → Taken rooms state l next
+  unfolding lineVerdict
+  line-taken closed =
+      through (state .ended) (not closed) (badMark state (roleOf (markOf l))) (tooMany state (roleOf (markOf l)))
+      (badShape (wants (markOf l)) l) (fieldsVerdict state (roleOf (markOf l)) (fieldsOf l))
+      (noRoom rooms state (roleOf (markOf l))) (badCounts state (roleOf (markOf l)) (fieldsOf l)) refl refl
+
+-- a line gives at most one record
+role-few : (state : ReaderState) (role : Role)
+    → afterRole state role .vertices + afterRole state role .elements ≤ state .vertices + state .elements + 1
+unfolding afterRole
+role-few state VertexLine = omega arith
+role-few state ElementLine = omega arith
+role-few state EndLine = omega arith
+role-few state UnknownLine = omega arith
+
+pub after-few : (state : ReaderState) (l : List ℕ)
+    → after state l .vertices + after state l .elements ≤ state .vertices + state .elements + 1
+unfolding after
+after-few state l = role-few state (roleOf (markOf l))
+
+-- ---- the lines in order
+
+module _ (rooms : Rooms) (state : ReaderState) (n : ℕ) where
+  -- no line is left
+  pub file-end : (t : List ℕ) → length t ≤ 0 → fileFrom rooms state n (split lineEnd t) ≡ atEnd state n
+  unfolding fileFrom split
+  file-end [] h = refl
+  file-end (x ∷ t) h = absurd (omega arith)
+
+  either : (b : Bool) (next : ReaderState → Verdict (List ℕ))
+      → onward (cond b (No fault.Mark) (No fault.Shape)) n next ≡ refused (refuse (cond b fault.Mark fault.Shape) n)
+  either true next = refl
+  either false next = refl
+
+  -- a line without its byte 10 is refused
+  pub open-refused : (l : List ℕ) (next : ReaderState → Verdict (List ℕ))
+      → onward (lineVerdict rooms state false l) n next ≡ refused (refuse (openFault state) n)
+  unfolding lineVerdict
+  open-refused l next = either (state .ended) next
+
+  cut-off : (t : List ℕ) → 0 < length t → fileFrom rooms state n (rest t) ≡ refused (refuse (openFault state) n)
+  unfolding fileFrom
+  cut-off [] h = absurd (omega arith)
+  cut-off (x ∷ t) h = open-refused (x ∷ t) (λ s. atEnd s (n + 1))
+
+  module _ (t : List ℕ) (r : ℕ) (k : FirstAt lineEnd t r) where
+    -- the last line lacks its byte 10
+    pub file-open : 0 < length t → length t ≤ r → fileFrom rooms state n (split lineEnd t) ≡ refused (refuse (openFault state) n)
+    file-open h e = rw (k .miss e) (cut-off t h)
+
+    step : r < length t
+        → fileFrom rooms state n (split lineEnd t)
+        ≡ onward (lineVerdict rooms state true (take r t)) n (λ s. fileFrom rooms s (n + 1) (split lineEnd (drop (r + 1) t)))
+    unfolding fileFrom
+    step h = ap (fileFrom rooms state n) (k .hit h)
+
+    -- the line is refused
+    pub file-no : (f : Fault) → r < length t → lineVerdict rooms state true (take r t) ≡ No f
+        → fileFrom rooms state n (split lineEnd t) ≡ refused (refuse f n)
+    file-no f h e = step h ∙ rw e
+
+    -- the next line
+    pub file-next : (s : ReaderState) → r < length t → lineVerdict rooms state true (take r t) ≡ Next s
+        → fileFrom rooms state n (split lineEnd t) ≡ fileFrom rooms s (n + 1) (split lineEnd (drop (r + 1) t))
+    file-next s h e = step h ∙ rw e

@@ -1,0 +1,10 @@
+pub mod PartLaws
+pub mod NumberLaws
+pub mod MarkLaws
+pub mod FieldLaws
+pub mod LineLaws
+pub mod FileLaws
+pub mod RecordLaws
+pub mod ReadLaws
+pub mod AcceptedLaws
+pub mod Theorems

@@ -1,0 +1,21 @@
+-- Laws of marks: a line too short for a mark has none.
+-- Assumes nothing.
+use Prim.Native.Nat.{ℕ, _<_}
+use native.Mathlib.Omega.{arith}
+use mathlib.Core.Path.{_≡_, refl}
+use mathlib.Core.Bool.{Bool, true, false, _&&_}
+use mathlib.Core.List.{List, [], _∷_}
+use lib.Dec.{eqb}
+use lib.ListN.{length}
+use Rattle.text.specs.Line.{markWith, markOf}
+use Rattle.text.specs.declared.terms.Mark.the-variants.{Unknown}
+
+no-second : (b : Bool) → (b && false) ≡ false
+no-second true = refl
+no-second false = refl
+
+pub mark-short : (t : List ℕ) → length t < 2 → markOf t ≡ Unknown
+unfolding markOf markWith
+mark-short [] h = refl
+mark-short (a ∷ []) h = simp no-second
+mark-short (a ∷ b ∷ t) h = absurd (omega arith)

@@ -1,0 +1,106 @@
+-- What reading promises, in the words of specs/.
+--   read-unique       two answers and two pairs of tables that the contract allows are equal
+--   refused-keeps     a refused file leaves both tables as they were
+--   accepted-stores   an accepted file leaves its records, and behind them what stood there
+--   accepted-counts   its counts are those of its records, within the limits and the lent tables
+--   comma-refused     a coordinate field that holds a comma is COMMA, whatever else is wrong in it
+-- Assumes nothing.
+use Prim.Native.Nat.{ℕ, _*_, _≤_}
+use mathlib.Core.Path.{_≡_, refl, sym, ap, _∙_}
+use mathlib.Core.Bool.{true}
+use mathlib.Core.List.{List, [], _∷_}
+use lib.ListN.{length}
+use lib.IntN.{ℤ}
+use Rattle.laws.specs.Pieces.{split}
+use Rattle.laws.specs.Lent.{laid}
+use Rattle.laws.proofs.LentLaws.{laid-none}
+use Rattle.faults.specs.Refusals.{Verdict, accepted, refused, answerOf}
+use Rattle.faults.proofs.Theorems.{answer-tells-verdict}
+use Rattle.faults.specs.declared.Fault.the-variants as fault
+use Rattle.faults.specs.declared.Refusal.{Refusal}
+use Rattle.text.specs.Constants.{comma, vertexLimit, elementLimit, vertexWidth, elementWidth}
+use Rattle.text.specs.Number.{cut, coordinateOf}
+use Rattle.text.specs.File.{start, linesOf, fileVerdict}
+use Rattle.text.specs.Records.{vertexRecords, elementRecords, recordsFrom, ofAccepted, storedVertices, storedElements, verdictOf, roomsOf, ReadDone}
+use Rattle.text.specs.declared.ReadAnswer.{ReadAnswer}
+use Rattle.text.specs.declared.ReadAnswer.the-variants.{Done, Refused}
+use Rattle.text.specs.declared.ReadCounts.{ReadCounts}
+use Rattle.text.specs.declared.terms.Coordinate.the-variants.{Wrong}
+use Rattle.text.proofs.AcceptedLaws.{file-fits}
+
+-- ---- two answers
+
+-- two answers that stand for one verdict are one answer
+verdict-tells-answer : (r s : ReadAnswer) → verdictOf r ≡ verdictOf s → r ≡ s
+unfolding verdictOf
+verdict-tells-answer (Done c) (Done d) e =
+    let p : c .vertices ≡ d .vertices = cc in
+    let q : c .elements ≡ d .elements = cc in
+    λ i. Done (record { vertices = p i; elements = q i })
+verdict-tells-answer (Done c) (Refused s) e = cc
+verdict-tells-answer (Refused r) (Done d) e = cc
+verdict-tells-answer (Refused r) (Refused s) e = cc
+
+module _ (file : List ℕ) (vertices : List ℤ) (elements : List ℕ) where
+  -- the contract fixes the verdict that the answer stands for
+  verdict-is : (r : ReadAnswer) (v : List ℤ) (e : List ℕ) → ReadDone file vertices elements r v e
+      → verdictOf r ≡ fileVerdict (roomsOf vertices elements) file
+  verdict-is r v e d = answer-tells-verdict (0 ∷ 0 ∷ []) _ _ (d .answer)
+
+  pub read-unique : (r s : ReadAnswer) (v w : List ℤ) (e f : List ℕ)
+      → ReadDone file vertices elements r v e → ReadDone file vertices elements s w f
+      → (r ≡ s) × (v ≡ w) × (e ≡ f)
+  read-unique r s v w e f d k = (
+    verdict-tells-answer r s (verdict-is r v e d ∙ sym (verdict-is s w f k)),
+    d .vertexTable ∙ sym (k .vertexTable),
+    d .elementTable ∙ sym (k .elementTable),
+  )
+
+  -- ---- a refused file
+
+  pub refused-keeps : (r : Refusal) (v : List ℤ) (e : List ℕ) → ReadDone file vertices elements (Refused r) v e → (v ≡ vertices) × (e ≡ elements)
+  unfolding verdictOf storedVertices storedElements
+  refused-keeps r v e d =
+      let q = verdict-is (Refused r) v e d in
+      (d .vertexTable ∙ rw (← q) (laid-none vertices), d .elementTable ∙ rw (← q) (laid-none elements))
+
+  -- ---- an accepted file
+
+  pub accepted-stores : (counts : ReadCounts) (v : List ℤ) (e : List ℕ) → ReadDone file vertices elements (Done counts) v e
+      → (v ≡ laid (recordsFrom vertexRecords start (linesOf file)) vertices)
+      × (e ≡ laid (recordsFrom elementRecords start (linesOf file)) elements)
+  unfolding verdictOf storedVertices storedElements
+  accepted-stores counts v e d =
+      let q = verdict-is (Done counts) v e d in
+      (d .vertexTable ∙ rw (← q), d .elementTable ∙ rw (← q))
+
+  -- three numbers a vertex, nine an element, and as many as the counts say
+  pub record Counted (counts : ReadCounts) : Type 0 where
+    pub vertices-stored : length (recordsFrom vertexRecords start (linesOf file)) ≡ vertexWidth * counts .vertices
+    pub elements-stored : length (recordsFrom elementRecords start (linesOf file)) ≡ elementWidth * counts .elements
+    pub vertices-limited : counts .vertices ≤ vertexLimit
+    pub elements-limited : counts .elements ≤ elementLimit
+    pub vertices-fit : vertexWidth * counts .vertices ≤ length vertices
+    pub elements-fit : elementWidth * counts .elements ≤ length elements
+
+  pub accepted-counts : (counts : ReadCounts) (v : List ℤ) (e : List ℕ) → ReadDone file vertices elements (Done counts) v e → Counted counts
+  unfolding verdictOf
+  accepted-counts counts v e d =
+      let f = file-fits (roomsOf vertices elements) file (counts .vertices ∷ counts .elements ∷ []) (sym (verdict-is (Done counts) v e d)) in
+      let c = f .counts in
+      let p : counts .vertices ≡ f .final .vertices = cc in
+      let q : counts .elements ≡ f .final .elements = cc in
+      record {
+        vertices-stored = rw p (f .vertices);
+        elements-stored = rw q (f .elements);
+        vertices-limited = rw p (f .kept .vertices);
+        elements-limited = rw q (f .kept .elements);
+        vertices-fit = rw p (f .kept .vertexRoom);
+        elements-fit = rw q (f .kept .elementRoom);
+      }
+
+-- ---- a comma
+
+pub comma-refused : (l : List ℕ) → cut (split comma l) ≡ true → coordinateOf l ≡ Wrong fault.Comma
+unfolding coordinateOf
+comma-refused l h = rw h

@@ -1,0 +1,66 @@
+-- `text::field::are_fields` counts fields. Invariant: the whole is n fields if the rest is as many as are left. Assumes nothing.
+use Prim.Native.Nat.{_<_}
+use native.Mathlib.Omega.{arith}
+use mathlib.Core.Path.{_≡_, refl, sym, _∙_}
+use borrow.Author.Needs.{needs}
+use lib.ListN.{length}
+use Rattle.laws.specs.Pieces.{split}
+use Rattle.text.specs.Constants.{space}
+use Rattle.text.specs.Line.{areFields}
+use Rattle.text.proofs.FieldLaws.{none-wanted, fields-empty, fields-last, fields-more}
+use Rattle.text.proofs.field.are_fields.Statement.{statement}
+use Rattle.text.proofs.field.are_fields.Tie as tie
+
+abbrev Inv-loop : tie.InvT-loop
+Inv-loop s n t₀ left₀ t left = areFields n (split space s) ≡ areFields left (split space t)
+
+abbrev μ-loop : tie.MeasureT-loop
+μ-loop s n t₀ left₀ t left = left
+
+loop-holds : tie.Need-loop-holds Inv-loop μ-loop
+loop-holds c = refl
+
+returns : tie.Need-returns Inv-loop μ-loop
+returns c = sym (c .before .loop .inv ∙ rw (c .if1 .taken) (none-wanted _))
+
+find-requires : tie.Need-find-requires Inv-loop μ-loop
+find-requires c κs = search needs
+
+returns-2 : tie.Need-returns-2 Inv-loop μ-loop
+returns-2 c = sym (c .before .before .before .loop .inv ∙ fields-empty _ _ (rw (c .if2 .taken) at (c .before .find .ensures)))
+
+returns-3 : tie.Need-returns-3 Inv-loop μ-loop
+returns-3 c = sym (c .before .before .before .before .loop .inv ∙ fields-last _ _ (c .before .before .find .ensures) (c .before .if2 .left) _ (c .before .before .before .if1 .left) (c .if3 .taken))
+
+sub-left : tie.Need-sub-left Inv-loop μ-loop
+sub-left c = omega (arith, c .before .before .before .if1 .left)
+
+past-requires : tie.Need-past-requires Inv-loop μ-loop
+past-requires c κs = search needs
+
+loop-less : tie.Need-loop-less Inv-loop μ-loop
+loop-less c = omega (arith, c .before .before .before .before .if1 .left)
+
+loop-again : tie.Need-loop-again Inv-loop μ-loop
+loop-again c =
+    let l = c .before .before .before .before .before .loop in
+    let h : c .before .before .before .find .result < length (l .t .now) = omega (arith, c .before .before .before .find .ensures .high, c .before .if3 .left) in
+    l .inv
+    ∙ fields-more _ _ (c .before .before .before .find .ensures) (c .before .before .if2 .left) _ (c .before .before .before .before .if1 .left) h
+    ∙ rw (c .past .ensures)
+
+pub are-fields-spec : {M : Type 1} → statement M
+are-fields-spec =
+    tie.close
+    (tie.spec
+    Inv-loop
+    μ-loop
+    loop-holds
+    returns
+    find-requires
+    returns-2
+    returns-3
+    sub-left
+    past-requires
+    loop-less
+    loop-again)

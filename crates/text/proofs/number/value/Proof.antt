@@ -1,0 +1,32 @@
+-- `text::number::value` is the number of a field, 0 where it is none. Assumes nothing.
+use native.Mathlib.Omega.{arith}
+use Rattle.text.specs.Number.{valueOf}
+use borrow.Author.Needs.{needs}
+use Rattle.text.proofs.number.value.Statement.{statement}
+use Rattle.text.proofs.number.value.Tie as tie
+
+number-requires : tie.Need-number-requires
+number-requires c κs = search needs
+
+enum-known-n : tie.Need-enum-known-n
+enum-known-n c = search needs
+
+cast-result : tie.Need-cast-result
+cast-result c =
+    let h = rw (c .before .n .given .1) at (c .before .before .before .number .ensures .small) in
+    omega arith
+
+enum-told : tie.Need-enum-told
+enum-told c = search needs
+
+returns : tie.Need-returns
+unfolding valueOf
+returns c = rw (← c .before .before .before .number .ensures .is, c .before .n .given .1)
+
+returns-2 : tie.Need-returns-2
+unfolding valueOf
+returns-2 c = rw (← c .before .before .number .ensures .is, c .enum-told .given .1)
+
+pub value-spec : {M : Type 1} → statement M
+value-spec =
+    tie.close (tie.spec number-requires enum-known-n cast-result enum-told returns returns-2)

@@ -1,0 +1,76 @@
+-- The bytes, the limits and the widths that the page names. Each stands here and nowhere else.
+use Prim.Native.Nat.{ℕ}
+
+-- each line ends in byte 10
+abbrev pub lineEnd : ℕ
+lineEnd = 10
+
+-- each field is preceded by exactly one space
+abbrev pub space : ℕ
+space = 32
+
+-- a comma, which no coordinate holds
+abbrev pub comma : ℕ
+comma = 44
+
+-- the optional minus of a coordinate
+abbrev pub minus : ℕ
+minus = 45
+
+-- the decimal sign of a coordinate
+abbrev pub point : ℕ
+point = 46
+
+-- the digits are the bytes from 0 to 9
+abbrev pub digit0 : ℕ
+digit0 = 48
+
+abbrev pub digit9 : ℕ
+digit9 = 57
+
+-- at most 65,536 bytes
+abbrev pub fileLimit : ℕ
+fileLimit = 65536
+
+-- at most 4,096 vertices, 1,024 elements, 6,144 tetrahedra
+abbrev pub vertexLimit : ℕ
+vertexLimit = 4096
+
+abbrev pub elementLimit : ℕ
+elementLimit = 1024
+
+abbrev pub tetrahedronLimit : ℕ
+tetrahedronLimit = 6144
+
+-- thousandths of a millimetre, from -500,000 to 500,000
+abbrev pub coordinateLimit : ℕ
+coordinateLimit = 500000
+
+-- one to six digits before the point, one to three after it
+abbrev pub wholeDigits : ℕ
+wholeDigits = 6
+
+abbrev pub decimalDigits : ℕ
+decimalDigits = 3
+
+-- a vertex number or count: one to four digits
+abbrev pub numberDigits : ℕ
+numberDigits = 4
+
+-- a vertex is three signed numbers
+abbrev pub vertexWidth : ℕ
+vertexWidth = 3
+
+-- an element is nine numbers: its kind, then eight vertex numbers
+abbrev pub elementWidth : ℕ
+elementWidth = 9
+
+abbrev pub cornerWidth : ℕ
+cornerWidth = 8
+
+-- a line starts with a two-byte mark; its fields stand behind that and a space
+abbrev pub markWidth : ℕ
+markWidth = 2
+
+abbrev pub fieldsAt : ℕ
+fieldsAt = 3

@@ -1,0 +1,38 @@
+// The text file: reading it into two lent tables.
+mod constants;
+mod field;
+mod file;
+mod line;
+mod mark;
+mod number;
+mod scan;
+mod store;
+pub mod terms;
+
+use faults::Refusal;
+ghost use Rattle.text.specs.Records.{ReadDone};
+
+// How many vertices and elements the file gave.
+pub struct ReadCounts {
+    pub vertices: usize,
+    pub elements: usize,
+}
+
+// What reading says of a file.
+pub enum ReadAnswer {
+    Done(ReadCounts),
+    Refused(Refusal),
+}
+
+// Reads a file: three numbers a vertex into one table, nine an element into the other; a refused file leaves both alone.
+pub fn read_mesh(file: &[u8], vertices: &mut [i32], elements: &mut [u16]) -> ReadAnswer
+    ensures { λ r. ⌜ ReadDone (now (file .entry)) (now (vertices .entry)) (now (elements .entry)) r (now (vertices .exit)) (now (elements .exit)) ⌝ }
+{
+    let rooms = terms::Rooms {
+        vertices: vertices.len(),
+        elements: elements.len(),
+    };
+    let answer = file::judge(file, rooms);
+    store::store_records(store::to_store(file, answer), vertices, elements);
+    answer
+}

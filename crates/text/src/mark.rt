@@ -1,0 +1,105 @@
+// The mark of a line, and what it tells: how many fields, and what the line is.
+use crate::constants::MARK_WIDTH;
+use crate::terms::Mark;
+use crate::terms::Role;
+ghost use mathlib.Core.Path.{_≡_};
+ghost use mathlib.Core.Bool.{_&&_};
+ghost use lib.Dec.{eqb};
+ghost use Rattle.text.specs.Line.{markWith, markOf, wants, roleOf};
+ghost use Rattle.text.specs.Records.{tipFirst};
+
+// Whether a and b are the bytes x and y.
+fn spells(a: u8, b: u8, x: u8, y: u8) -> bool
+    ensures { λ r. ⌜ r ≡ (eqb a x && eqb b y) ⌝ }
+{
+    if a == x {
+        return b == y;
+    }
+    false
+}
+
+// The mark with the bytes a and b.
+fn mark_with(a: u8, b: u8) -> Mark
+    ensures { λ r. ⌜ r ≡ markWith a b ⌝ }
+{
+    if spells(a, b, b'V', b'X') {
+        return Mark::Vx;
+    }
+    if spells(a, b, b'T', b'E') {
+        return Mark::Te;
+    }
+    if spells(a, b, b'P', b'Y') {
+        return Mark::Py;
+    }
+    if spells(a, b, b'P', b'Z') {
+        return Mark::Pz;
+    }
+    if spells(a, b, b'P', b'R') {
+        return Mark::Pr;
+    }
+    if spells(a, b, b'H', b'X') {
+        return Mark::Hx;
+    }
+    if spells(a, b, b'E', b'N') {
+        return Mark::En;
+    }
+    Mark::Unknown
+}
+
+// The mark with which a line starts.
+pub fn mark_of(t: &[u8]) -> Mark
+    ensures { λ r. ⌜ r ≡ markOf (now (t .entry)) ⌝ }
+{
+    if t.len() < MARK_WIDTH {
+        return Mark::Unknown;
+    }
+    mark_with(t[0], t[1])
+}
+
+// How many fields a mark has; of an element, its kind.
+pub fn wants(mark: Mark) -> u16
+    ensures { λ r. ⌜ r ≡ wants mark ⌝ }
+{
+    match mark {
+        Mark::Vx => 3,
+        Mark::Te => 4,
+        Mark::Py => 5,
+        Mark::Pz => 5,
+        Mark::Pr => 6,
+        Mark::Hx => 8,
+        Mark::En => 2,
+        Mark::Unknown => 0,
+    }
+}
+
+// What a line is by its mark.
+pub fn role_of(mark: Mark) -> Role
+    ensures { λ r. ⌜ r ≡ roleOf mark ⌝ }
+{
+    match mark {
+        Mark::Vx => Role::VertexLine,
+        Mark::Te => Role::ElementLine,
+        Mark::Py => Role::ElementLine,
+        Mark::Pz => Role::ElementLine,
+        Mark::Pr => Role::ElementLine,
+        Mark::Hx => Role::ElementLine,
+        Mark::En => Role::EndLine,
+        Mark::Unknown => Role::UnknownLine,
+    }
+}
+
+// Whether a mark has the tip first among its fields.
+pub fn tip_first(mark: Mark) -> bool
+    ensures { λ r. ⌜ r ≡ tipFirst mark ⌝ }
+{
+    match mark {
+        Mark::Vx => false,
+        Mark::Te => false,
+        Mark::Py => false,
+        Mark::Pz => true,
+        Mark::Pr => false,
+        Mark::Hx => false,
+        Mark::En => false,
+        Mark::Unknown => false,
+    }
+}
