@@ -1,6 +1,8 @@
 -- Refusal numbers: the page's table, and what an answer says in numbers.
 --   verdict   what an entry says of its input: accepted, with its own values, or refused, with fault, place and second number
 --   answer    the same in the page's numbers: number, place, second number, then the entry's own values
+use mathlib.Core.Bool.{Bool, cond}
+use mathlib.Core.List.{List, []}
 use Prim.Native.Nat.{ℕ}
 use Rattle.faults.specs.declared.Fault.{Fault}
 use Rattle.faults.specs.declared.Fault.the-variants.{Long, Mark, Shape, Comma, Number, Range, Many, Vertex, Room, End, Kind, Spare, Repeat, Join}
@@ -52,6 +54,22 @@ refuse f n = record { fault = f; place = n; second = 0 }
 -- JOIN carries j, then i
 abbrev pub refusePair : ℕ → ℕ → Refusal
 refusePair j i = record { fault = Join; place = j; second = i }
+
+module _ {A : Type 0} where
+  -- refused where the test holds, else what comes next
+  abbrev pub refuseIf : Bool → Refusal → Verdict A → Verdict A
+  refuseIf b r next = cond b (refused r) next
+
+module _ {A B : Type 0} where
+  -- what comes after an acceptance; a refusal stays as it is
+  abbrev pub andThen : Verdict A → (A → Verdict B) → Verdict B
+  andThen (accepted v) next = next v
+  andThen (refused r) next = refused r
+
+  -- a refused call stores nothing; an accepted one stores only its records
+  abbrev pub recordsOf : (A → List B) → Verdict A → List B
+  recordsOf f (accepted v) = f v
+  recordsOf f (refused r) = []
 
 -- an answer in the page's numbers
 pub record Answer (A : Type 0) : Type 0 where

@@ -27,6 +27,12 @@ pub struct Refusal {
     pub second: usize,
 }
 
+// What a test finds: nothing, or the first fault.
+pub enum Finding {
+    Clean,
+    Found(Fault),
+}
+
 // The page's number of a fault.
 pub fn number_of(fault: Fault) -> u32
     ensures { λ r. ⌜ r ≡ numberOf fault ⌝ }

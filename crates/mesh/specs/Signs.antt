@@ -1,0 +1,80 @@
+-- The sign report: a table is judged as for cutting, without the output; then the vertex table: ROOM, RANGE; then four counts.
+use mathlib.Core.Path.{_≡_}
+use mathlib.Core.Bool.{Bool, true, false, not}
+use mathlib.Core.List.{List, [], _∷_}
+use Prim.Native.Nat.{ℕ, _+_, _*_}
+use lib.Dec.{eqb, ltb, T}
+use lib.IntN.{ℤ, pos, natAbs}
+use lib.ListN.{length}
+use lib.Signed.{ltZ}
+use Rattle.laws.specs.Words.{count, every}
+use Rattle.laws.specs.Searches.{least}
+use Rattle.faults.specs.declared.Fault.the-variants.{Room, Range}
+use Rattle.faults.specs.Refusals.{Verdict, accepted, refused, refuse, refuseIf, andThen, answerOf}
+use Rattle.volume.specs.Volume.{pointInRange, pointAt, sixfoldAt}
+use Rattle.solids.specs.Solids.{Vertex, Tet, tet, Element}
+use Rattle.solids.specs.Cut.{cut, cutMesh}
+use Rattle.mesh.specs.declared.SignAnswer.{SignAnswer}
+use Rattle.mesh.specs.declared.SignAnswer.the-variants.{Done, Refused}
+use Rattle.mesh.specs.Judge.{judged}
+
+-- a vertex is three signed numbers
+abbrev pub vertexWidth : ℕ
+vertexWidth = 3
+
+-- the sixfold volume of a tetrahedron of the cut, its vertices taken from the vertex table
+unfoldable pub volumeIn : List ℤ → Tet Vertex → ℤ
+volumeIn table (tet a b c d) = sixfoldAt table a b c d
+
+-- positive, zero and negative tetrahedra
+unfoldable pub isPositive : List ℤ → Tet Vertex → Bool
+isPositive table t = ltZ (pos 0) (volumeIn table t)
+
+unfoldable pub isZero : List ℤ → Tet Vertex → Bool
+isZero table t = eqb (natAbs (volumeIn table t)) 0
+
+unfoldable pub isNegative : List ℤ → Tet Vertex → Bool
+isNegative table t = ltZ (volumeIn table t) (pos 0)
+
+-- an element is sound when all its tetrahedra are positive
+unfoldable pub sound : List ℤ → Element → Bool
+sound table e = every (isPositive table) (cut e)
+
+-- positive, zero and negative tetrahedra of the cut, and unsound elements
+unfoldable pub signCounts : List ℤ → List Element → List ℕ
+signCounts table es =
+    count (isPositive table) (cutMesh es)
+    ∷ count (isZero table) (cutMesh es)
+    ∷ count (isNegative table) (cutMesh es)
+    ∷ count (λ e. not (sound table e)) es
+    ∷ []
+
+-- the number, from 1, of the first of n vertices with a coordinate beyond the limits, or 0
+unfoldable pub badPoint : List ℤ → ℕ → ℕ
+badPoint table n = least (λ k. not (pointInRange (pointAt table (k + 1)))) n
+
+-- the four counts, or the first fault
+unfoldable pub signsOf : (vertexCount elementCount : ℕ) → List ℕ → List ℤ → Verdict (List ℕ)
+signsOf v n t table =
+    andThen (judged v n t) λ es.
+    refuseIf (ltb (length table) (vertexWidth * v)) (refuse Room 0)
+    (let k = badPoint table v in refuseIf (ltb 0 k) (refuse Range k)
+    (accepted (signCounts table es)))
+
+-- the answer of the sign report as a verdict
+abbrev pub signVerdict : SignAnswer → Verdict (List ℕ)
+signVerdict (Done c) = accepted (c .positive ∷ c .zero ∷ c .negative ∷ c .unsound ∷ [])
+signVerdict (Refused r) = refused r
+
+-- the sign report: the answer for every two counts and every two tables
+pub record SignDone (v n : ℕ) (t : List ℕ) (table : List ℤ) (r : SignAnswer) : Type 0 where
+  pub answer : answerOf (0 ∷ 0 ∷ 0 ∷ 0 ∷ []) (signVerdict r) ≡ answerOf (0 ∷ 0 ∷ 0 ∷ 0 ∷ []) (signsOf v n t table)
+
+-- accepted
+abbrev pub isAccepted : {A : Type 0} → Verdict A → Bool
+isAccepted (accepted v) = true
+isAccepted (refused r) = false
+
+-- demand 2's accepted tables are those the sign report accepts
+unfoldable pub acceptedTables : (vertexCount elementCount : ℕ) → List ℕ → List ℤ → Bool
+acceptedTables v n t table = isAccepted (signsOf v n t table)

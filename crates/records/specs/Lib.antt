@@ -1,0 +1,3 @@
+-- The page's element record, and how it is judged.
+pub mod Record
+pub mod Loops

@@ -1,0 +1,21 @@
+-- What private functions ask of the records that they are handed; proofs/RecordLaws.antt says that a record without a fault is so.
+use mathlib.Core.Path.{_≡_}
+use mathlib.Core.List.{List}
+use Prim.Native.Nat.{ℕ, _*_, _≤_, _<_}
+use lib.Dec.{T, ltb}
+use lib.ListN.{length}
+use Rattle.laws.specs.Words.{every, distinct}
+use Rattle.records.specs.Record.{width, kindOf, usedOf, isKind, recordAt}
+
+-- nine numbers, a kind, and corners that are different vertices, none of them 0
+pub record Whole (r : List ℕ) : Type 0 where
+  pub wide : length r ≡ width
+  pub kind : T (isKind (kindOf r))
+  pub apart : T (distinct (usedOf r))
+  pub positive : T (every (ltb 0) (usedOf r))
+
+-- n whole records, at most 1,024, stand in the table
+pub record WholeTable (t : List ℕ) (n : ℕ) : Type 0 where
+  pub few : n ≤ 1024
+  pub long : width * n ≤ length t
+  pub whole : (k : ℕ) → k < n → Whole (recordAt t k)

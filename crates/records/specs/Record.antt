@@ -1,0 +1,68 @@
+-- The element record: nine numbers, its kind (4, 5, 6 or 8, its corner count), then eight vertex numbers, unused ones zero.
+-- Nothing outside this file knows the width of a record or where a field stands.
+use mathlib.Core.Bool.{Bool, true, false, cond, not, _&&_, _||_}
+use mathlib.Core.List.{List, [], _∷_, _++_}
+use Prim.Native.Nat.{ℕ, zero, suc, _*_}
+use lib.Dec.{eqb, ltb}
+use lib.ListN.{length, getD, take, drop}
+use Rattle.laws.specs.Words.{some, distinct}
+use Rattle.faults.specs.declared.Fault.the-variants.{Kind, Vertex, Spare, Repeat}
+use Rattle.faults.specs.declared.Finding.{Finding}
+use Rattle.faults.specs.declared.Finding.the-variants.{Clean, Found}
+use Rattle.solids.specs.declared.Solid.{Solid}
+use Rattle.solids.specs.declared.Solid.the-variants.{Tetrahedron, Pyramid, Prism, Hexahedron}
+use Rattle.solids.specs.Solids.{Element, element}
+
+-- how many numbers a record has
+abbrev pub width : ℕ
+width = 9
+
+-- the kind, which is the corner count
+unfoldable pub kindOf : List ℕ → ℕ
+kindOf r = getD r 0 0
+
+-- the eight vertex numbers
+unfoldable pub numbersOf : List ℕ → List ℕ
+numbersOf r = take 8 (drop 1 r)
+
+-- the vertex numbers of the corners
+unfoldable pub usedOf : List ℕ → List ℕ
+usedOf r = take (kindOf r) (numbersOf r)
+
+-- the unused vertex numbers
+unfoldable pub spareOf : List ℕ → List ℕ
+spareOf r = drop (kindOf r) (numbersOf r)
+
+-- a kind is 4, 5, 6 or 8
+unfoldable pub isKind : ℕ → Bool
+isKind k = eqb k 4 || (eqb k 5 || (eqb k 6 || eqb k 8))
+
+-- the solid of a kind; any other number is refused before its solid is asked for
+unfoldable pub solidOf : ℕ → Solid
+solidOf k = cond (eqb k 4) Tetrahedron (cond (eqb k 5) Pyramid (cond (eqb k 6) Prism Hexahedron))
+
+-- the element that a record holds
+unfoldable pub elementOf : List ℕ → Element
+elementOf r = element (solidOf (kindOf r)) (usedOf r)
+
+-- KIND, VERTEX, SPARE, REPEAT, in this order: the first fault of a record whose vertex numbers may go up to a limit
+unfoldable pub recordFinding : ℕ → List ℕ → Finding
+recordFinding limit r =
+    cond (not (eqb (length r) width && isKind (kindOf r))) (Found Kind)
+    (cond (some (λ v. eqb v 0 || ltb limit v) (usedOf r)) (Found Vertex)
+    (cond (some (λ v. not (eqb v 0)) (spareOf r)) (Found Spare)
+    (cond (not (distinct (usedOf r))) (Found Repeat)
+    Clean)))
+
+-- the record k of a table, from 0
+unfoldable pub recordAt : List ℕ → ℕ → List ℕ
+recordAt t k = take width (drop (width * k) t)
+
+-- the element k of a table, from 0
+unfoldable pub elementAt : List ℕ → ℕ → Element
+elementAt t k = elementOf (recordAt t k)
+
+-- the first n elements of a table, in their order
+unfoldable pub firstElements : List ℕ → ℕ → List Element
+firstElements t zero = []
+firstElements t (suc n) = firstElements t n ++ (elementAt t n ∷ [])

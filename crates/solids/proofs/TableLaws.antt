@@ -1,0 +1,134 @@
+-- The tables of the code are the page's: an entry of the table of faces is a place of a face, an entry of the table of cuts a place of a row,
+-- and outside both there is none. Every place is at most 8.
+-- Assumes nothing.
+use mathlib.Core.Path.{_≡_, refl, ap}
+use mathlib.Core.Bool.{Bool, _&&_}
+use mathlib.Core.List.{List, [], _∷_, map}
+use mathlib.Core.Logic.{_⊎_, inl, inr}
+use Prim.Native.Nat.{ℕ, zero, suc, _+_, _*_, _≤_, _<_, zero-le}
+use native.Mathlib.Nat.{le-trans}
+use lib.Dec.{T, eqb, leb, eqb→eq, leb→le}
+use lib.ListN.{length, getD, length-map, List·getD-eq-default}
+use Rattle.laws.specs.Words.{every}
+use Rattle.solids.specs.Solids.{Solid, tetrahedron, pyramid, prism, hexahedron, Face, three, four, faces, faceCount, faceCorners, facePlace, ofFace}
+use Rattle.solids.specs.Rows.{hexRows, rowPlaces, rowPlace}
+use Rattle.solids.specs.Loops.{faceRows, firstFace, cutPlaces}
+use Rattle.laws.proofs.TestLaws.{and-left, and-right, below, at-below}
+
+-- ---- the faces
+
+-- one test for each face of a solid and each of four corners
+abbrev faceRight : Solid → ℕ → ℕ → Bool
+faceRight s i k = eqb (facePlace s i k) (getD (getD faceRows (firstFace s + i) []) k 0)
+
+faces-right : (s : Solid) → T (below (faceCount s) (λ i. below 4 (faceRight s i)))
+unfolding facePlace faceCorners faceRows
+faces-right tetrahedron = tt
+faces-right pyramid = tt
+faces-right prism = tt
+faces-right hexahedron = tt
+
+pub face-entry : (s : Solid) (i k : ℕ) → i < faceCount s → k < 4 → facePlace s i k ≡ getD (getD faceRows (firstFace s + i) []) k 0
+face-entry s i k h j =
+    eqb→eq (facePlace s i k) (getD (getD faceRows (firstFace s + i) []) k 0)
+    (at-below 4 (faceRight s i) (at-below (faceCount s) (λ l. below 4 (faceRight s l)) (faces-right s) i h) k j)
+
+-- the faces of all solids stand in the table
+pub face-inside : (s : Solid) → firstFace s + faceCount s ≤ 20
+face-inside tetrahedron = leb→le 4 20 tt
+face-inside pyramid = leb→le 9 20 tt
+face-inside prism = leb→le 14 20 tt
+face-inside hexahedron = leb→le 20 20 tt
+
+pub face-beyond : (s : Solid) (i k : ℕ) → faceCount s ≤ i → facePlace s i k ≡ 0
+unfolding facePlace faceCorners
+face-beyond s i k h =
+    ap (λ (l : List ℕ). getD l k 0) (List·getD-eq-default (map ofFace (faces s)) [] (rw (length-map (faces s) ofFace) h))
+
+corners-few : (F : Face ℕ) → length (ofFace F) ≤ 4
+corners-few (three p q r) = leb→le 3 4 tt
+corners-few (four p q r s) = leb→le 4 4 tt
+
+few-at : (fs : List (Face ℕ)) (i : ℕ) → length (getD (map ofFace fs) i []) ≤ 4
+few-at [] i = zero-le
+few-at (F ∷ fs) zero = corners-few F
+few-at (F ∷ fs) (suc i) = few-at fs i
+
+pub corner-beyond : (s : Solid) (i k : ℕ) → 4 ≤ k → facePlace s i k ≡ 0
+unfolding facePlace faceCorners
+corner-beyond s i k h = List·getD-eq-default (getD (map ofFace (faces s)) i []) 0 (le-trans (few-at (faces s) i) h)
+
+-- ---- the rows
+
+-- one test for each row and each of its 24 places
+abbrev rowRight : ℕ → ℕ → Bool
+rowRight r k = eqb (rowPlace r k) (getD cutPlaces (r * 24 + k) 0)
+
+rows-right : T (below 64 (λ r. below 24 (rowRight r)))
+unfolding rowPlace rowPlaces hexRows cutPlaces
+rows-right = tt
+
+pub row-entry : (r k : ℕ) → r < 64 → k < 24 → rowPlace r k ≡ getD cutPlaces (r * 24 + k) 0
+row-entry r k h j =
+    eqb→eq (rowPlace r k) (getD cutPlaces (r * 24 + k) 0)
+    (at-below 24 (rowRight r) (at-below 64 (λ q. below 24 (rowRight q)) rows-right r h) k j)
+
+-- 64 rows of 24 places, none above 8
+abbrev rowFits : List ℕ → Bool
+rowFits l = eqb (length l) 24 && every (λ p. leb p 8) l
+
+rows-fit : T (every rowFits hexRows)
+unfolding hexRows
+rows-fit = tt
+
+rows-length : length hexRows ≡ 64
+unfolding hexRows
+rows-length = refl
+
+pub row-beyond : (r k : ℕ) → 64 ≤ r → rowPlace r k ≡ 0
+unfolding rowPlace rowPlaces
+row-beyond r k h = ap (λ (l : List ℕ). getD l k 0) (List·getD-eq-default hexRows [] {n = r} (rw rows-length h))
+
+-- a test that passes at each row passes at the row of any number, or there is none
+at-row : (l : List (List ℕ)) (P : List ℕ → Bool) → T (every P l) → (r : ℕ) → (T (P (getD l r []))) ⊎ (getD l r [] ≡ [])
+at-row [] P h r = inr refl
+at-row (x ∷ l) P h zero = inl (and-left (P x) (every P l) h)
+at-row (x ∷ l) P h (suc r) = at-row l P (and-right (P x) (every P l) h) r
+
+pub entry-beyond : (r k : ℕ) → 24 ≤ k → rowPlace r k ≡ 0
+unfolding rowPlace rowPlaces
+entry-beyond r k h = go (at-row hexRows rowFits rows-fit r)
+  where
+    go : (T (rowFits (getD hexRows r []))) ⊎ (getD hexRows r [] ≡ []) → getD (getD hexRows r []) k 0 ≡ 0
+    go (inl t) = List·getD-eq-default (getD hexRows r []) 0 {n = k} (rw (eqb→eq (length (getD hexRows r [])) 24 (and-left (eqb (length (getD hexRows r [])) 24) (every (λ p. leb p 8) (getD hexRows r [])) t)) h)
+    go (inr e) = ap (λ (l : List ℕ). getD l k 0) e
+
+-- ---- every place is at most 8
+
+at-any : (l : List ℕ) → T (every (λ p. leb p 8) l) → (k : ℕ) → getD l k 0 ≤ 8
+at-any [] h k = zero-le
+at-any (x ∷ l) h zero = leb→le x 8 (and-left (leb x 8) (every (λ p. leb p 8) l) h)
+at-any (x ∷ l) h (suc k) = at-any l (and-right (leb x 8) (every (λ p. leb p 8) l) h) k
+
+pub row-place-small : (r k : ℕ) → rowPlace r k ≤ 8
+unfolding rowPlace rowPlaces
+row-place-small r k = go (at-row hexRows rowFits rows-fit r)
+  where
+    go : (T (rowFits (getD hexRows r []))) ⊎ (getD hexRows r [] ≡ []) → getD (getD hexRows r []) k 0 ≤ 8
+    go (inl t) = at-any (getD hexRows r []) (and-right (eqb (length (getD hexRows r [])) 24) (every (λ p. leb p 8) (getD hexRows r [])) t) k
+    go (inr e) = rw (ap (λ (l : List ℕ). getD l k 0) e) zero-le
+
+faces-fit : (s : Solid) → T (every (λ F. every (λ p. leb p 8) (ofFace F)) (faces s))
+faces-fit tetrahedron = tt
+faces-fit pyramid = tt
+faces-fit prism = tt
+faces-fit hexahedron = tt
+
+face-at : (fs : List (Face ℕ)) → T (every (λ F. every (λ p. leb p 8) (ofFace F)) fs) → (i k : ℕ) → getD (getD (map ofFace fs) i []) k 0 ≤ 8
+face-at [] h i k = zero-le
+face-at (F ∷ fs) h zero k = at-any (ofFace F) (and-left (every (λ p. leb p 8) (ofFace F)) (every (λ G. every (λ p. leb p 8) (ofFace G)) fs) h) k
+face-at (F ∷ fs) h (suc i) k = face-at fs (and-right (every (λ p. leb p 8) (ofFace F)) (every (λ G. every (λ p. leb p 8) (ofFace G)) fs) h) i k
+
+pub face-place-small : (s : Solid) (i k : ℕ) → facePlace s i k ≤ 8
+unfolding facePlace faceCorners
+face-place-small s i k = face-at (faces s) (faces-fit s) i k

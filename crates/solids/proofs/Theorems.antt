@@ -1,0 +1,122 @@
+-- What is proved of solids, their cuts and how they fit, in the words of specs/ alone. A reader starts here.
+-- Assumes nothing.
+use mathlib.Core.Path.{_≡_, refl}
+use mathlib.Core.Bool.{Bool, true, false, cond}
+use mathlib.Core.List.{List, [], _∷_, map, List·Memᴰ}
+use Prim.Native.Nat.{ℕ, _*_, _≤_, _<_}
+use native.Mathlib.Omega.{arith}
+use lib.Dec.{T, eqb, eqb→eq}
+use lib.IntN.{ℤ, pos}
+use lib.ListN.{length}
+use borrow.Author.Tests.{eq-eqb, eqb-true}
+use Rattle.laws.specs.Words.{every}
+use Rattle.solids.specs.Solids.{Place, Vertex, Solid, tetrahedron, pyramid, prism, hexahedron, Tet, Element, element, faces}
+use Rattle.solids.specs.Rotations.{isRotation, relisted, rotations}
+use Rattle.solids.specs.Cut.{through, howMany, cut, cutMesh}
+use Rattle.solids.specs.Reference.{volumeOn, positive, counterclockwise, addUp, Filled}
+use Rattle.solids.specs.Rows.{rowPlaces, rowTets, cutByRow}
+use Rattle.solids.specs.Samples.{Sample, samples}
+use Rattle.solids.specs.Fit.{proper, fitting}
+use Rattle.solids.specs.Surface.{Plain, Closed, SurfaceCut}
+use Rattle.laws.proofs.TestLaws.{and-left, and-right, at-below}
+use Rattle.solids.proofs.ShapeLaws.{from-proper}
+use Rattle.solids.proofs.SampleLaws as SampleLaws
+use Rattle.solids.proofs.RowLaws as RowLaws
+use Rattle.solids.proofs.CountLaws as CountLaws
+use Rattle.solids.proofs.TetLaws as TetLaws
+use Rattle.solids.proofs.ReferenceTest as ReferenceTest
+use Rattle.solids.proofs.FilledLaws as FilledLaws
+use Rattle.solids.proofs.RotationList as RotationList
+use Rattle.solids.proofs.RotationsComplete as RotationsComplete
+use Rattle.solids.proofs.RelistedLaws as RelistedLaws
+use Rattle.solids.proofs.ClosedElement as ClosedElement
+use Rattle.solids.proofs.MeshLaws as MeshLaws
+
+-- ---- the cut
+
+-- the ten rows of the page's table
+pub samples-hold : map (λ (s : Sample). cut (s .whole)) samples ≡ map (λ (s : Sample). s .parts) samples
+samples-hold = SampleLaws.samples-hold
+
+-- the 64 rows agree with the rule: for every hexahedron of eight different vertex numbers
+pub rows-agree : (vs : List Vertex) → T (proper (element hexahedron vs)) → cutByRow vs ≡ cut (element hexahedron vs)
+rows-agree vs h = RowLaws.rows-agree vs (from-proper hexahedron vs h)
+
+-- how many tetrahedra an element gives
+pub cut-many : (e : Element) → T (proper e) → length (cut e) ≡ howMany e
+cut-many (element s vs) h = CountLaws.cut-many s vs (from-proper s vs h)
+
+-- a hexahedron gives five exactly if n is 0
+pub five-if : (vs : List Vertex) → T (proper (element hexahedron vs)) → through vs ≡ 0 → length (cut (element hexahedron vs)) ≡ 5
+five-if vs h z = rw (cut-many (element hexahedron vs) h, eq-eqb (through vs) 0 z)
+
+pub five-only-if : (vs : List Vertex) → T (proper (element hexahedron vs)) → length (cut (element hexahedron vs)) ≡ 5 → through vs ≡ 0
+five-only-if vs h = rw (cut-many (element hexahedron vs) h) (go (eqb (through vs) 0) refl)
+  where
+    go : (b : Bool) → eqb (through vs) 0 ≡ b → _≡_ {A = ℕ} (cond b 5 6) 5 → through vs ≡ 0
+    go true e f = eqb-true (through vs) 0 e
+    go false e f = absurd (omega arith)
+
+-- at most six for each element, so at most 6,144 for 1,024
+pub mesh-many : (es : List Element) → T (every proper es) → length (cutMesh es) ≤ 6 * length es
+mesh-many = CountLaws.mesh-many
+
+pub mesh-most : (es : List Element) → T (every proper es) → length es ≤ 1024 → length (cutMesh es) ≤ 6144
+mesh-most es h l = omega (arith, mesh-many es h)
+
+-- each tetrahedron has four different vertices, all of them the element's, and none occurs twice
+pub plain : (e : Element) → T (proper e) → Plain e
+plain = TetLaws.plain
+
+-- ---- the reference solids
+
+-- every listed face runs counterclockwise seen from outside
+pub faces-counterclockwise : (s : Solid) → T (every (counterclockwise s) (faces s))
+faces-counterclockwise = ReferenceTest.faces-counterclockwise
+
+-- every tetrahedron of every cut is positive there, and they add up to 1, 2, 3 or 6
+pub filled : (e : Element) → T (proper e) → Filled e
+filled (element s vs) h = FilledLaws.filled s vs (from-proper s vs h)
+
+-- and so are those of each of the 64 rows
+pub row-positive : (r : ℕ) → r < 64 → T (every (λ t. positive (volumeOn hexahedron t)) (rowTets (rowPlaces r)))
+row-positive r h =
+    and-left (every (λ t. positive (volumeOn hexahedron t)) (rowTets (rowPlaces r)))
+    (ReferenceTest.sameZ (addUp (volumeOn hexahedron) (rowTets (rowPlaces r))) (pos 6)) (at-below 64 ReferenceTest.rowOk ReferenceTest.rows-fill r h)
+
+pub row-fills : (r : ℕ) → r < 64 → addUp (volumeOn hexahedron) (rowTets (rowPlaces r)) ≡ pos 6
+row-fills r h =
+    FilledLaws.same-Z (addUp (volumeOn hexahedron) (rowTets (rowPlaces r))) (pos 6)
+    (and-right (every (λ t. positive (volumeOn hexahedron t)) (rowTets (rowPlaces r)))
+    (ReferenceTest.sameZ (addUp (volumeOn hexahedron) (rowTets (rowPlaces r))) (pos 6)) (at-below 64 ReferenceTest.rowOk ReferenceTest.rows-fill r h))
+
+-- ---- rotations
+
+-- 12, 4, 6 and 24 of them, no two alike
+pub rotations-many : map (λ s. length (rotations s)) (tetrahedron ∷ pyramid ∷ prism ∷ hexahedron ∷ []) ≡ 12 ∷ 4 ∷ 6 ∷ 24 ∷ []
+rotations-many = RotationList.how-many
+
+pub rotations-differ : (s : Solid) → T (RotationsComplete.allDiffer (rotations s))
+rotations-differ = RotationsComplete.all-differ
+
+-- each of them is one, and each reordering that the page's definition allows is among them
+pub rotations-right : (s : Solid) → T (every (isRotation s) (rotations s))
+rotations-right = RotationList.are-rotations
+
+pub rotations-all : (s : Solid) (ρ : List Place) → T (isRotation s ρ) → List·Memᴰ ρ (rotations s)
+rotations-all = RotationsComplete.complete
+
+-- an element relisted by a rotation of its solid has the identical cut
+pub cut-relisted : (s : Solid) (vs : List Vertex) → T (proper (element s vs)) → (ρ : List Place) → T (isRotation s ρ)
+    → cut (relisted ρ (element s vs)) ≡ cut (element s vs)
+cut-relisted s vs h ρ r = RelistedLaws.rotate s vs (from-proper s vs h) ρ (RotationsComplete.complete s ρ r)
+
+-- ---- the surface
+
+-- one element: the surface of its cut is the cut of its surface
+pub closed : (e : Element) → T (proper e) → Closed e
+closed (element s vs) h = ClosedElement.closed s vs (from-proper s vs h)
+
+-- every mesh of proper elements that fit: the surface of the cut is the cut of the surface
+pub surface-cut : (es : List Element) → T (every proper es) → T (fitting es) → SurfaceCut es
+surface-cut = MeshLaws.surface-cut
