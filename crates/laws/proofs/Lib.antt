@@ -6,3 +6,4 @@ pub mod LentLaws
 pub mod SearchLaws
 pub mod SizeLaws
 pub mod IntegerLaws
+pub mod WordLaws

@@ -1,1 +1,2 @@
 -- What is proved of tables.
+pub mod JudgeLaws

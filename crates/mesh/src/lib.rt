@@ -1,6 +1,8 @@
 // Element tables: judged, cut, and counted by sign.
 use faults::Refusal;
 
+mod judge;
+
 // What judging a table answers.
 pub enum JudgeAnswer {
     Done,

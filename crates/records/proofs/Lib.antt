@@ -1,1 +1,3 @@
+-- What is proved of the element record; Theorems states it.
 pub mod RecordLaws
+pub mod Theorems

@@ -1,20 +1,27 @@
--- A whole record holds a proper element: as many corners as its solid has, no vertex twice.
--- Assumes nothing.
-use mathlib.Core.Path.{_≡_, refl, sym, ap, _∙_}
-use mathlib.Core.Bool.{Bool, true, false, _&&_, _||_}
-use mathlib.Core.List.{List}
-use mathlib.Core.Logic.{_⊎_, inl, inr}
-use Prim.Native.Nat.{ℕ, _≤_, _<_, min}
+-- Laws of a record and of a table of records: the parts that the code reads are the fields; a record without a fault is whole, and a whole
+-- record holds a proper element: as many corners as its solid has, no vertex twice. Assumes nothing.
+use mathlib.Core.Path.{_≡_, refl, sym, ap, _∙_, subst}
+use mathlib.Core.Bool.{Bool, true, false, cond, not, _&&_, _||_}
+use mathlib.Core.List.{List, [], _∷_, _++_}
+use Prim.Native.Nat.{ℕ, zero, suc, _+_, _-_, _*_, _/_, _≤_, _<_, min}
+use native.Mathlib.Nat.{not-suc-le-zero}
+use native.Mathlib.Numerals.{add-one, one-add}
 use native.Mathlib.Omega.{arith}
-use lib.Dec.{T, eqb, eqb→eq}
-use lib.ListN.{length, take, drop, length-take, length-drop}
-use borrow.Author.Tests.{eq-eqb}
-use Rattle.laws.specs.Words.{distinct}
-use Rattle.solids.specs.declared.Solid.{Solid}
-use Rattle.solids.specs.Solids.{element, corners}
+use lib.Dec.{T, eqb, ltb, leb, eqb→eq, ltb→lt, leb→le, lt→ltb, le→leb}
+use lib.ListN.{length, getD, take, drop, length-append, length-take, length-drop, take-append-drop, drop-of-length-le, List·getD-eq-default, List·getD-append}
+use lib.Seq.{take-all, drop-drop, drop-cons, drop-length, getD-take, getD-drop, getD-at, length-take-le}
+use borrow.Author.Tests.{eq-eqb, ne-eqb, eqb-true, eqb-false, ltb-false, le-ltb, not-false}
+use Rattle.laws.specs.Words.{every, some, distinct}
+use Rattle.laws.proofs.TestLaws.{T-true, true-T, and-left, and-right}
+use Rattle.laws.proofs.WordLaws.{part-from, and-both, every-append, every-at, every-follows, every-weaker, none-follows}
+use Rattle.faults.specs.declared.Fault.{Fault}
+use Rattle.faults.specs.declared.Fault.the-variants.{Kind, Vertex, Spare, Repeat}
+use Rattle.faults.specs.declared.Finding.{Finding}
+use Rattle.faults.specs.declared.Finding.the-variants.{Clean, Found}
+use Rattle.solids.specs.Solids.{Element, corners, at}
 use Rattle.solids.specs.Fit.{proper}
-use Rattle.records.specs.Record.{width, kindOf, numbersOf, usedOf, isKind, solidOf, elementOf}
-use Rattle.records.specs.Loops.{Whole}
+use Rattle.records.specs.Record.{width, kindOf, numbersOf, usedOf, spareOf, cornerAt, isKind, solidOf, elementOf, strayVertex, notZero, recordFinding, recordAt, elementAt, firstElements}
+use Rattle.records.specs.Loops.{isNumber, Faultless, Whole, WholeTable}
 
 -- the four kinds, one by one
 pub data IsOne (k : ℕ) : Type 0 where
@@ -72,3 +79,222 @@ pub whole-proper : (r : List ℕ) → Whole r → T (proper (elementOf r))
 unfolding elementOf
 whole-proper r w =
     rw (eq-eqb (length (usedOf r)) (corners (solidOf (kindOf r))) (used-length r w ∙ sym (kind-corners (kindOf r) (w .kind)))) (w .apart)
+
+-- ---- the vertex number at a place
+
+-- a place of the record is an index of its numbers
+pub corner-field : (r : List ℕ) (p : ℕ) → 0 < p → p ≤ 8 → getD r p 0 ≡ cornerAt r p
+unfolding cornerAt numbersOf
+corner-field r zero l h = absurd (omega arith)
+corner-field r (suc i) l h = sym (getD-take 8 (drop 1 r) i 0 h ∙ getD-drop 1 r i 0 ∙ ap (λ (n : ℕ). getD r n 0) (one-add i))
+
+-- no vertex stands at place 0, at a place above 8, or behind the record's end
+pub corner-none : (r : List ℕ) (p : ℕ) → p ≡ 0 → 0 ≡ cornerAt r p
+unfolding cornerAt
+corner-none r p e = rw e
+
+pub corner-above : (r : List ℕ) (p : ℕ) → 8 < p → 0 ≡ cornerAt r p
+unfolding cornerAt numbersOf
+corner-above r zero l = absurd (omega arith)
+corner-above r (suc i) l =
+    sym (List·getD-eq-default (take 8 (drop 1 r)) 0 (let e = length-take 8 (drop 1 r) in omega arith))
+
+pub corner-behind : (r : List ℕ) (p : ℕ) → 0 < p → p ≤ 8 → length r ≤ p → 0 ≡ cornerAt r p
+corner-behind r p l h e = sym (List·getD-eq-default r 0 e) ∙ corner-field r p l h
+
+-- at the places of the corners stand the vertex numbers of the corners
+pub corner-used : (r : List ℕ) (p : ℕ) → p ≤ kindOf r → cornerAt r p ≡ at (usedOf r) p
+unfolding cornerAt usedOf
+corner-used r zero h = refl
+corner-used r (suc i) h = sym (getD-take (kindOf r) (numbersOf r) i 0 h)
+
+-- ---- the parts of nine numbers
+
+module _ (r : List ℕ) (wide : length r ≡ width) where
+  all-numbers : numbersOf r ≡ drop 1 r
+  unfolding numbersOf
+  all-numbers = take-all 8 (drop 1 r) (let e = length-drop 1 r in omega arith)
+
+  -- the code's parts are the used and the unused vertex numbers
+  pub used-part : (k : ℕ) → k ≡ kindOf r → take (1 + k - 1) (drop 1 r) ≡ usedOf r
+  unfolding usedOf
+  used-part k e =
+      let s : 1 + k - 1 ≡ kindOf r = omega arith in
+      rw (s, all-numbers)
+
+  pub spare-part : (k : ℕ) → k ≡ kindOf r → drop (1 + k) r ≡ spareOf r
+  unfolding spareOf
+  spare-part k e = rw (e, all-numbers) (sym (drop-drop (kindOf r) 1 r))
+
+  -- a record is its kind, its used and its unused vertex numbers
+  pub record-parts : r ≡ kindOf r ∷ (usedOf r ++ spareOf r)
+  unfolding kindOf usedOf spareOf
+  record-parts =
+      drop-cons r 0 0 (omega arith)
+      ∙ ap (λ (l : List ℕ). kindOf r ∷ l) (sym all-numbers ∙ sym (take-append-drop (kindOf r) (numbersOf r)))
+
+-- ---- what a record is found to be
+
+-- the first fault, by the tests that lead to it
+module _ (limit : ℕ) (r : List ℕ) where
+  pub finding-short : (length r ≡ width → ⊥) → Found Kind ≡ recordFinding limit r
+  unfolding recordFinding
+  finding-short n = rw (ne-eqb (length r) width n)
+
+  module _ (wide : length r ≡ width) where
+    pub finding-kind : isKind (kindOf r) ≡ false → Found Kind ≡ recordFinding limit r
+    unfolding recordFinding
+    finding-kind k = rw (eq-eqb (length r) width wide, k)
+
+    module _ (kind : isKind (kindOf r) ≡ true) where
+      pub finding-vertex : some (strayVertex limit) (usedOf r) ≡ true → Found Vertex ≡ recordFinding limit r
+      unfolding recordFinding
+      finding-vertex v = rw (eq-eqb (length r) width wide, kind, v)
+
+      module _ (vertex : some (strayVertex limit) (usedOf r) ≡ false) where
+        pub finding-spare : some notZero (spareOf r) ≡ true → Found Spare ≡ recordFinding limit r
+        unfolding recordFinding
+        finding-spare s = rw (eq-eqb (length r) width wide, kind, vertex, s)
+
+        module _ (spare : some notZero (spareOf r) ≡ false) where
+          pub finding-repeat : distinct (usedOf r) ≡ false → Found Repeat ≡ recordFinding limit r
+          unfolding recordFinding
+          finding-repeat d = rw (eq-eqb (length r) width wide, kind, vertex, spare, d)
+
+          pub finding-clean : distinct (usedOf r) ≡ true → Clean ≡ recordFinding limit r
+          unfolding recordFinding
+          finding-clean d = rw (eq-eqb (length r) width wide, kind, vertex, spare, d)
+
+-- a finding past a test that may have found a fault
+past : (b : Bool) (f : Fault) {next : Finding} → cond b (Found f) next ≡ Clean → (b ≡ false) × (next ≡ Clean)
+past true f e = let z : _≡_ {A = ℕ} 0 1 = cc in absurd (omega arith)
+past false f e = (refl, e)
+
+not-stray : (limit v : ℕ) → strayVertex limit v ≡ false → T (isNumber limit v)
+not-stray limit v e = go (eqb v 0) refl (ltb limit v) refl e
+  where
+    go : (a : Bool) → eqb v 0 ≡ a → (b : Bool) → ltb limit v ≡ b → (a || b) ≡ false → T (isNumber limit v)
+    go true p b q e = absurd (subst T e tt)
+    go false p true q e = absurd (subst T e tt)
+    go false p false q e =
+        and-both (ltb 0 v) (leb v limit)
+        (lt→ltb 0 v (let n = eqb-false v 0 p in omega arith)) (le→leb v limit (ltb-false limit v q))
+
+stays : (limit v : ℕ) → T (isNumber limit v) → strayVertex limit v ≡ false
+stays limit v h =
+    let low = ltb→lt 0 v (and-left (ltb 0 v) (leb v limit) h) in
+    let high = leb→le v limit (and-right (ltb 0 v) (leb v limit) h) in
+    rw (ne-eqb v 0 (λ e. omega arith), le-ltb limit v high)
+
+is-zero : (v : ℕ) → notZero v ≡ false → T (eqb 0 v)
+is-zero v e = true-T (eq-eqb 0 v (sym (eqb-true v 0 (not-false (eqb v 0) e))))
+
+module _ (limit : ℕ) (r : List ℕ) where
+  -- no fault is found exactly where there is none
+  pub clean-faultless : recordFinding limit r ≡ Clean → Faultless limit r
+  unfolding recordFinding
+  clean-faultless e =
+      let shape = eqb (length r) width && isKind (kindOf r) in
+      let a = past (not shape) Kind e in
+      let b = past (some (strayVertex limit) (usedOf r)) Vertex (a .1) in
+      let c = past (some notZero (spareOf r)) Spare (b .1) in
+      let d = past (not (distinct (usedOf r))) Repeat (c .1) in
+      let s : T shape = true-T (not-false shape (a .0)) in
+      record {
+        wide = eqb→eq (length r) width (and-left (eqb (length r) width) (isKind (kindOf r)) s);
+        kind = and-right (eqb (length r) width) (isKind (kindOf r)) s;
+        inside = every-follows (isNumber limit) (strayVertex limit) (not-stray limit) (usedOf r) (b .0);
+        unused = every-follows (eqb 0) notZero is-zero (spareOf r) (c .0);
+        apart = true-T (not-false (distinct (usedOf r)) (d .0));
+      }
+
+  pub faultless-clean : Faultless limit r → recordFinding limit r ≡ Clean
+  faultless-clean f =
+      sym
+      (finding-clean limit r (f .wide) (T-true (isKind (kindOf r)) (f .kind))
+      (none-follows (isNumber limit) (strayVertex limit) (stays limit) (usedOf r) (f .inside))
+      (none-follows (eqb 0) notZero (λ v h. rw (eq-eqb v 0 (sym (eqb→eq 0 v h)))) (spareOf r) (f .unused))
+      (T-true (distinct (usedOf r)) (f .apart)))
+
+  -- a record without a fault is whole
+  pub clean-whole : recordFinding limit r ≡ Clean → Whole r
+  clean-whole e =
+      let f = clean-faultless e in
+      record {
+        wide = f .wide;
+        kind = f .kind;
+        apart = f .apart;
+        positive = every-weaker (isNumber limit) (ltb 0) (λ v h. and-left (ltb 0 v) (leb v limit) h) (usedOf r) (f .inside);
+      }
+
+  -- at each corner's place stands a vertex number between 1 and the limit
+  pub clean-corner : recordFinding limit r ≡ Clean → (p : ℕ) → 0 < p → p ≤ kindOf r → T (isNumber limit (cornerAt r p))
+  clean-corner e zero l h = absurd (not-suc-le-zero l)
+  clean-corner e (suc i) l h =
+      rw (corner-used r (suc i) h)
+      (every-at (isNumber limit) (usedOf r) 0 i (clean-faultless e .inside) (rw (used-length r (clean-whole e)) h))
+
+-- ---- the records of a table
+
+-- the code's part of a table
+pub record-part : (t : List ℕ) (k : ℕ) → take (width * k + width - width * k) (drop (width * k) t) ≡ recordAt t k
+unfolding recordAt
+record-part t k =
+    let e : width * k + width - width * k ≡ width = omega arith in
+    rw e
+
+-- where the table ends before the record does
+pub record-short : (t : List ℕ) (k : ℕ) → length t - width * k < width → take (length t - width * k) (drop (width * k) t) ≡ recordAt t k
+unfolding recordAt
+record-short t k h =
+    part-from t (width * k) ∙ sym (take-all width (drop (width * k) t) (let e = length-drop (width * k) t in omega arith))
+
+-- where it ends before the record starts
+pub record-beyond : (t : List ℕ) (k : ℕ) → length t / width < k → take (length t - length t) (drop (length t) t) ≡ recordAt t k
+unfolding recordAt
+record-beyond t k h =
+    part-from t (length t) ∙ drop-length t ∙ sym (ap (take width) (drop-of-length-le t {i = width * k} (omega arith)))
+
+-- where the table is long enough for n records, each of them has nine numbers
+pub record-length : (t : List ℕ) (n k : ℕ) → width * n ≤ length t → k < n → length (recordAt t k) ≡ width
+unfolding recordAt
+record-length t n k long below =
+    length-take-le width (drop (width * k) t) (let e = length-drop (width * k) t in omega arith)
+
+-- ---- the elements of a table
+
+-- the first n elements are n
+pub first-length : (t : List ℕ) (n : ℕ) → length (firstElements t n) ≡ n
+unfolding firstElements
+first-length t zero = refl
+first-length t (suc n) = rw (length-append, first-length t n, add-one)
+
+-- the element at an index of the first elements is that of the table
+pub first-at : (t : List ℕ) (n k : ℕ) (d : Element) → k < n → getD (firstElements t n) k d ≡ elementAt t k
+unfolding firstElements
+first-at t zero k d h = absurd (not-suc-le-zero h)
+first-at t (suc n) k d h = by (eqb k n) refl (first-at t n k d)
+  where
+    l : length (firstElements t n) ≡ n
+    l = first-length t n
+
+    by : (b : Bool) → eqb k n ≡ b → (k < n → getD (firstElements t n) k d ≡ elementAt t k)
+        → getD (firstElements t n ++ (elementAt t n ∷ [])) k d ≡ elementAt t k
+    by true e rest = let p = eqb-true k n e in rw p (getD-at (firstElements t n) (elementAt t n) [] d n l)
+    by false e rest =
+        let q = eqb-false k n e in
+        let i : k < n = omega arith in
+        List·getD-append (firstElements t n) (elementAt t n ∷ []) d k (rw l i) ∙ rest i
+
+-- elements that are proper one by one are all proper
+all-proper : (t : List ℕ) (n : ℕ) → ((k : ℕ) → k < n → T (proper (elementAt t k))) → T (every proper (firstElements t n))
+unfolding firstElements
+all-proper t zero h = tt
+all-proper t (suc n) h =
+    every-append proper (firstElements t n) (elementAt t n ∷ []) (all-proper t n (λ k l. h k (omega arith)))
+    (and-both (proper (elementAt t n)) true (h n (omega arith)) tt)
+
+-- the elements of a whole table are proper
+pub first-proper : (t : List ℕ) (n : ℕ) → WholeTable t n → T (every proper (firstElements t n))
+unfolding elementAt
+first-proper t n w = all-proper t n (λ k h. whole-proper (recordAt t k) (w .whole k h))

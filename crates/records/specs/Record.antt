@@ -1,6 +1,6 @@
 -- The element record: nine numbers, its kind (4, 5, 6 or 8, its corner count), then eight vertex numbers, unused ones zero.
 -- Nothing outside this file knows the width of a record or where a field stands.
-use mathlib.Core.Bool.{Bool, true, false, cond, not, _&&_, _||_}
+use mathlib.Core.Bool.{Bool, cond, not, _&&_, _||_}
 use mathlib.Core.List.{List, [], _∷_, _++_}
 use Prim.Native.Nat.{ℕ, zero, suc, _*_}
 use lib.Dec.{eqb, ltb}
@@ -11,7 +11,7 @@ use Rattle.faults.specs.declared.Finding.{Finding}
 use Rattle.faults.specs.declared.Finding.the-variants.{Clean, Found}
 use Rattle.solids.specs.declared.Solid.{Solid}
 use Rattle.solids.specs.declared.Solid.the-variants.{Tetrahedron, Pyramid, Prism, Hexahedron}
-use Rattle.solids.specs.Solids.{Element, element}
+use Rattle.solids.specs.Solids.{Place, Element, element, at}
 
 -- how many numbers a record has
 abbrev pub width : ℕ
@@ -33,6 +33,10 @@ usedOf r = take (kindOf r) (numbersOf r)
 unfoldable pub spareOf : List ℕ → List ℕ
 spareOf r = drop (kindOf r) (numbersOf r)
 
+-- the vertex number at a place, 0 where there is none
+unfoldable pub cornerAt : List ℕ → Place → ℕ
+cornerAt r p = at (numbersOf r) p
+
 -- a kind is 4, 5, 6 or 8
 unfoldable pub isKind : ℕ → Bool
 isKind k = eqb k 4 || (eqb k 5 || (eqb k 6 || eqb k 8))
@@ -45,12 +49,21 @@ solidOf k = cond (eqb k 4) Tetrahedron (cond (eqb k 5) Pyramid (cond (eqb k 6) P
 unfoldable pub elementOf : List ℕ → Element
 elementOf r = element (solidOf (kindOf r)) (usedOf r)
 
--- KIND, VERTEX, SPARE, REPEAT, in this order: the first fault of a record whose vertex numbers may go up to a limit
+-- VERTEX: a vertex number 0 or above the limit
+abbrev pub strayVertex : ℕ → ℕ → Bool
+strayVertex limit v = eqb v 0 || ltb limit v
+
+-- SPARE: an unused vertex number not zero
+abbrev pub notZero : ℕ → Bool
+notZero v = not (eqb v 0)
+
+-- KIND, VERTEX, SPARE, REPEAT, in this order: the first fault of a record whose vertex numbers may go up to a limit;
+-- what is not nine numbers is KIND
 unfoldable pub recordFinding : ℕ → List ℕ → Finding
 recordFinding limit r =
     cond (not (eqb (length r) width && isKind (kindOf r))) (Found Kind)
-    (cond (some (λ v. eqb v 0 || ltb limit v) (usedOf r)) (Found Vertex)
-    (cond (some (λ v. not (eqb v 0)) (spareOf r)) (Found Spare)
+    (cond (some (strayVertex limit) (usedOf r)) (Found Vertex)
+    (cond (some notZero (spareOf r)) (Found Spare)
     (cond (not (distinct (usedOf r))) (Found Repeat)
     Clean)))
 

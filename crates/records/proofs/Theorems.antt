@@ -1,0 +1,85 @@
+-- What is proved of the element record, in the words of specs/ alone. A reader starts here.
+-- Assumes nothing.
+use mathlib.Core.Path.{_≡_, sym, _∙_}
+use mathlib.Core.List.{List, _∷_, _++_}
+use Prim.Native.Nat.{ℕ, _*_, _≤_, _<_}
+use lib.Dec.{T}
+use lib.ListN.{length, getD}
+use Rattle.laws.specs.Words.{every}
+use Rattle.faults.specs.declared.Finding.{Finding}
+use Rattle.faults.specs.declared.Finding.the-variants.{Clean}
+use Rattle.solids.specs.declared.Solid.{Solid}
+use Rattle.solids.specs.declared.Vertex.{Vertex}
+use Rattle.solids.specs.Solids.{Element, cornersOf, at}
+use Rattle.solids.specs.Fit.{proper}
+use Rattle.records.specs.Record.{width, kindOf, usedOf, spareOf, cornerAt, solidOf, elementOf, recordFinding, recordAt, elementAt, firstElements}
+use Rattle.records.specs.Loops.{isNumber, Faultless, Whole, WholeTable}
+use Rattle.records.proofs.RecordLaws as L
+
+-- ---- two answers that a contract allows are equal
+
+one : {A : Type 0} {a b x : A} → a ≡ x → b ≡ x → a ≡ b
+one p q = p ∙ sym q
+
+-- `solid_of`
+pub solid-unique : (k : ℕ) (a b : Solid) → a ≡ solidOf k → b ≡ solidOf k → a ≡ b
+solid-unique k a b = one
+
+-- `kind_of`
+pub kind-unique : (r : List ℕ) (a b : ℕ) → a ≡ kindOf r → b ≡ kindOf r → a ≡ b
+kind-unique r a b = one
+
+-- `corner`
+pub corner-unique : (r : List ℕ) (p : ℕ) (a b : Vertex) → a .0 ≡ cornerAt r p → b .0 ≡ cornerAt r p → a ≡ b
+corner-unique r p a b e f = λ i. record { 0 = one e f i }
+
+-- `record_at`
+pub record-unique : (t : List ℕ) (k : ℕ) (a b : List ℕ) → a ≡ recordAt t k → b ≡ recordAt t k → a ≡ b
+record-unique t k a b = one
+
+-- `judge_record`
+pub judgement-unique : (limit : ℕ) (r : List ℕ) (a b : Finding) → a ≡ recordFinding limit r → b ≡ recordFinding limit r → a ≡ b
+judgement-unique limit r a b = one
+
+-- ---- a record
+
+-- no fault is found exactly where there is none
+pub clean-faultless : (limit : ℕ) (r : List ℕ) → recordFinding limit r ≡ Clean → Faultless limit r
+clean-faultless = L.clean-faultless
+
+pub faultless-clean : (limit : ℕ) (r : List ℕ) → Faultless limit r → recordFinding limit r ≡ Clean
+faultless-clean = L.faultless-clean
+
+-- a record without a fault is whole, and a vertex number between 1 and the limit stands at each of its corners
+pub clean-whole : (limit : ℕ) (r : List ℕ) → recordFinding limit r ≡ Clean → Whole r
+clean-whole = L.clean-whole
+
+pub clean-corner : (limit : ℕ) (r : List ℕ) → recordFinding limit r ≡ Clean → (p : ℕ) → 0 < p → p ≤ kindOf r → T (isNumber limit (cornerAt r p))
+clean-corner = L.clean-corner
+
+-- a whole record holds a proper element, whose corners are the vertex numbers at its places
+pub whole-proper : (r : List ℕ) → Whole r → T (proper (elementOf r))
+whole-proper = L.whole-proper
+
+pub corner-of-element : (r : List ℕ) (p : ℕ) → p ≤ kindOf r → cornerAt r p ≡ at (cornersOf (elementOf r)) p
+unfolding elementOf
+corner-of-element = L.corner-used
+
+-- nine numbers are a kind, the used vertex numbers and the unused ones
+pub record-parts : (r : List ℕ) → length r ≡ width → r ≡ kindOf r ∷ (usedOf r ++ spareOf r)
+record-parts = L.record-parts
+
+-- ---- a table
+
+pub record-length : (t : List ℕ) (n k : ℕ) → width * n ≤ length t → k < n → length (recordAt t k) ≡ width
+record-length = L.record-length
+
+-- n elements, each in its place, and proper where the table is whole
+pub first-length : (t : List ℕ) (n : ℕ) → length (firstElements t n) ≡ n
+first-length = L.first-length
+
+pub first-at : (t : List ℕ) (n k : ℕ) (d : Element) → k < n → getD (firstElements t n) k d ≡ elementAt t k
+first-at = L.first-at
+
+pub first-proper : (t : List ℕ) (n : ℕ) → WholeTable t n → T (every proper (firstElements t n))
+first-proper = L.first-proper
