@@ -4,3 +4,4 @@ pub mod MarkLaws
 pub mod FieldLaws
 pub mod LineLaws
 pub mod FileLaws
+pub mod RecordLaws

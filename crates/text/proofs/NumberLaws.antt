@@ -11,6 +11,7 @@ use lib.Dec.{lit<}
 use lib.ListN.{length, drop, getD, drop-of-length-le}
 use lib.Seq.{drop-cons}
 use lib.IntN.{ℤ, pos, negℤ, _-ℤ_, +ℤ-idl}
+use lib.Signed.{mag}
 use mir.Syntax.{w32}
 use mir.Val.{SFits, toZ, ofZ}
 use mir.ValLaws.{toZ-pos, toZ-ofZ}
@@ -75,3 +76,7 @@ module _ (m : ℕ) (h : m ≤ coordinateLimit) where
 
   pub minus : toZ w32 (ofZ w32 (pos 0 -ℤ toZ w32 m)) ≡ negℤ (pos m)
   minus = toZ-ofZ w32 _ minus-fits ∙ minus-is
+
+-- an i32 that went through a local
+pub back : (z : ℤ) → mag z < 2 ^ 31 → toZ w32 (ofZ w32 z) ≡ z
+back z h = toZ-ofZ w32 z (record { sfits = h })

@@ -6,6 +6,7 @@ mod line;
 mod mark;
 mod number;
 mod scan;
+mod store;
 pub mod terms;
 
 use faults::Refusal;

@@ -1,0 +1,48 @@
+-- `text::store::store_line` stores the records of a line. Assumes nothing.
+use Rattle.text.specs.Line.{after}
+use borrow.Author.Needs.{needs}
+use Rattle.text.proofs.store.store_line.Statement.{statement}
+use Rattle.text.proofs.store.store_line.Tie as tie
+
+mark-of-requires : tie.Need-mark-of-requires
+mark-of-requires c κs = search needs
+
+role-of-requires : tie.Need-role-of-requires
+role-of-requires c κs = search needs
+
+store-vertex-requires : tie.Need-store-vertex-requires
+store-vertex-requires c κs = search needs
+
+store-element-requires : tie.Need-store-element-requires
+store-element-requires c κs = search needs
+
+after-requires : tie.Need-after-requires
+after-requires c κs = search needs
+
+same-length : tie.Need-same-length
+same-length c = search needs
+
+same-length-2 : tie.Need-same-length-2
+same-length-2 c = search needs
+
+returns : tie.Need-returns
+unfolding after
+returns c =
+    record {
+      vertexTable = rw (← c .before .before .before .before .before .before .before .before .before .mark-of .ensures, ← c .before .before .before .before .before .before .before .before .role-of .ensures) (c .before .before .before .before .before .before .store-vertex .ensures);
+      elementTable = rw (← c .before .before .before .before .before .before .before .before .before .mark-of .ensures, ← c .before .before .before .before .before .before .before .before .role-of .ensures) (c .before .before .before .store-element .ensures);
+      same = rw (← c .before .before .before .before .before .before .before .before .before .mark-of .ensures, ← c .before .before .before .before .before .before .before .before .role-of .ensures) (c .after .ensures);
+    }
+
+pub store-line-spec : {M : Type 1} → statement M
+store-line-spec =
+    tie.close
+    (tie.spec
+    mark-of-requires
+    role-of-requires
+    store-vertex-requires
+    store-element-requires
+    after-requires
+    same-length
+    same-length-2
+    returns)
