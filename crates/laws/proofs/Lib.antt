@@ -5,5 +5,6 @@ pub mod PieceLaws
 pub mod LentLaws
 pub mod SearchLaws
 pub mod SizeLaws
+pub mod SignLaws
 pub mod IntegerLaws
 pub mod WordLaws

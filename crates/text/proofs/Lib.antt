@@ -1,3 +1,5 @@
+pub mod DecimalLaws
+pub mod TextLaws
 pub mod PartLaws
 pub mod NumberLaws
 pub mod MarkLaws
