@@ -6,5 +6,6 @@ pub mod LentLaws
 pub mod SearchLaws
 pub mod SizeLaws
 pub mod SignLaws
+pub mod GatherLaws
 pub mod IntegerLaws
 pub mod WordLaws

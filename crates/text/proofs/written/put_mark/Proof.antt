@@ -1,5 +1,6 @@
 -- `text::written::put_mark` puts the two bytes of a mark. Assumes nothing.
 use borrow.Author.Needs.{needs}
+use Rattle.text.proofs.TextLaws.{added-none}
 use Rattle.text.proofs.written.put_mark.Statement.{statement}
 use Rattle.text.proofs.written.put_mark.Tie as tie
 
@@ -49,28 +50,28 @@ enum-told-8 : tie.Need-enum-told-8
 enum-told-8 c = search needs
 
 returns : tie.Need-returns
-returns c = ?
+returns c = rw (c .before .enum-told .given .1) (c .put-two .ensures)
 
 returns-2 : tie.Need-returns-2
-returns-2 c = ?
+returns-2 c = rw (c .before .enum-told2 .given .1) (c .put-two2 .ensures)
 
 returns-3 : tie.Need-returns-3
-returns-3 c = ?
+returns-3 c = rw (c .before .enum-told3 .given .1) (c .put-two3 .ensures)
 
 returns-4 : tie.Need-returns-4
-returns-4 c = ?
+returns-4 c = rw (c .before .enum-told4 .given .1) (c .put-two4 .ensures)
 
 returns-5 : tie.Need-returns-5
-returns-5 c = ?
+returns-5 c = rw (c .before .enum-told5 .given .1) (c .put-two5 .ensures)
 
 returns-6 : tie.Need-returns-6
-returns-6 c = ?
+returns-6 c = rw (c .before .enum-told6 .given .1) (c .put-two6 .ensures)
 
 returns-7 : tie.Need-returns-7
-returns-7 c = ?
+returns-7 c = rw (c .before .enum-told7 .given .1) (c .put-two7 .ensures)
 
 returns-8 : tie.Need-returns-8
-returns-8 c = ?
+returns-8 c = rw (c .enum-told8 .given .1) (added-none (c .before .before .args .t) (search needs))
 
 pub put-mark-spec : {M : Type 1} → statement M
 put-mark-spec =
