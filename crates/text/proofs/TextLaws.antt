@@ -68,7 +68,11 @@ module _ (t : Text) (x : ℕ) (e : length (t .bytes) ≡ capacity) where
       short = λ s. s;
       }
 
--- ---- a line
+-- ---- what a text holds
+
+pub held-length : (t : Text) → t .count ≤ length (t .bytes) → length (heldIn t) ≡ t .count
+unfolding heldIn
+held-length t h = length-take-le (t .count) (t .bytes) h
 
 module _ {l : List ℕ} {t : Text} (h : Holds l t) (room : length l ≤ capacity) where
   pub holds-whole : heldIn t ≡ l

@@ -2,13 +2,15 @@
 -- Assumes nothing.
 use Prim.Native.Nat.{ℕ, zero, suc, _+_, _*_, _/_, _%_, _^_, _≤_, _<_}
 use native.Mathlib.Nat.{le-refl, not-suc-le-zero}
+use native.Mathlib.Numerals.{add-one}
 use native.Mathlib.Omega.{arith}
 use mathlib.Core.Path.{_≡_, refl, sym, ap, _∙_}
 use mathlib.Core.Bool.{Bool, true, false}
-use mathlib.Core.List.{List, [], _∷_, _++_, map, append-nil, append-assoc}
+use mathlib.Core.List.{List, [], _∷_, _++_, map, append-nil, append-assoc, map-append}
 use lib.Dec.{T, ltb, leb, ltb→lt, leb→le}
 use lib.IntN.{ℤ, pos, negsuc, natAbs}
-use lib.ListN.{length, length-append, List·getD-eq-default}
+use lib.ListN.{length, getD, take, length-append, List·getD-eq-default}
+use lib.Seq.{take-all, take-suc}
 use lib.Signed.{ltZ}
 use borrow.Author.Tests.{ltb-true, ltb-false}
 use Rattle.laws.specs.Words.{gather, every}
@@ -23,10 +25,10 @@ use Rattle.faults.specs.declared.Refusal.{Refusal}
 use Rattle.faults.specs.declared.Finding.the-variants.{Clean}
 use Rattle.volume.specs.Volume.{inRange}
 use Rattle.volume.proofs.RangeLaws.{in-range-within}
-use Rattle.records.specs.Record.{kindOf, usedOf, recordFinding}
+use Rattle.records.specs.Record.{kindOf, usedOf, cornerAt, recordFinding}
 use Rattle.records.specs.Loops.{isNumber, Faultless}
-use Rattle.records.proofs.RecordLaws.{clean-faultless, clean-whole, used-length, kind-small}
-use Rattle.text.specs.Constants.{space, minus, point, vertexLimit, tetrahedronLimit}
+use Rattle.records.proofs.RecordLaws.{clean-faultless, clean-whole, used-length, kind-small, corner-used}
+use Rattle.text.specs.Constants.{lineEnd, space, minus, point, vertexLimit, tetrahedronLimit}
 use Rattle.text.specs.Line.{markBytes}
 use Rattle.text.specs.Written.{digit, decimal, signOf, millimetresOf, coordinateText, lineWith, closed, vertexLine, markOfKind, elementLine, endLine, refusalLine}
 use Rattle.text.specs.WriteLoops.{Holds, Added}
@@ -72,6 +74,30 @@ module _ (mark : List ℕ) {t r : Text} where
   line-field fields f h k =
       rw (gather-append (λ (g : List ℕ). space ∷ g) fields (f ∷ []), append-nil (space ∷ f), ← append-assoc mark (gather (λ (g : List ℕ). space ∷ g) fields) (space ∷ f))
       (holds-more h k)
+
+-- ---- the line of an element, corner by corner
+
+-- the mark and the first p vertex numbers
+abbrev pub elementPart : List ℕ → ℕ → List ℕ
+elementPart r p = lineWith (markBytes (markOfKind (kindOf r))) (map decimal (take p (usedOf r)))
+
+module _ (r : List ℕ) (clean : recordFinding vertexLimit r ≡ Clean) where
+  pub kind-of-clean : kindOf r ≤ 8
+  kind-of-clean = kind-small (kindOf r) (clean-faultless vertexLimit r clean .kind)
+
+  corner-count : length (usedOf r) ≡ kindOf r
+  corner-count = used-length r (clean-whole vertexLimit r clean)
+
+  pub element-corner : (p v : ℕ) {t u : Text} → p < kindOf r → v ≡ cornerAt r (p + 1) → Holds (elementPart r p) t → Added t (space ∷ decimal v) u
+      → Holds (elementPart r (p + 1)) u
+  element-corner p v {t} {u} l e h k =
+      let s : v ≡ getD (usedOf r) p 0 = e ∙ rw (add-one p) (corner-used r (suc p) (omega arith)) in
+      rw (add-one p, take-suc (usedOf r) p 0 (rw corner-count l), map-append decimal (take p (usedOf r)) (getD (usedOf r) p 0 ∷ []), ← s)
+      (line-field (markBytes (markOfKind (kindOf r))) (map decimal (take p (usedOf r))) (decimal v) h k)
+
+  pub element-closed : (p : ℕ) {t u : Text} → kindOf r ≤ p → Holds (elementPart r p) t → Added t (lineEnd ∷ []) u → Holds (closed (elementLine r)) u
+  unfolding elementLine
+  element-closed p l h k = holds-more (rw (take-all p (usedOf r) (rw corner-count l)) at h) k
 
 -- ---- how long a line is
 
