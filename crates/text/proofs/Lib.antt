@@ -2,6 +2,7 @@ pub mod DecimalLaws
 pub mod TextLaws
 pub mod WrittenLaws
 pub mod WriteLaws
+pub mod WriteTheorems
 pub mod PartLaws
 pub mod NumberLaws
 pub mod MarkLaws

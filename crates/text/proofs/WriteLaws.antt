@@ -32,17 +32,22 @@ pub refused-done : (old : List ℕ) (r : Refusal) {v : Verdict (List ℕ)} {a : 
 unfolding writeVerdict
 refused-done old r e f = rw (e, f) (record { answer = refl; buffer = sym (laid-none old) })
 
+-- a text's length, and the text with what stood behind it
+pub accepted-done : (text old : List ℕ) → WriteDone (accepted text) old (Done (length text)) (laid text old)
+unfolding writeVerdict
+accepted-done text old = record { answer = refl; buffer = refl }
+
 -- ROOM, and the buffer as it was
 pub room-done : (text old : List ℕ) {a : WriteAnswer} → length old < length text → a ≡ Refused (refuse fault.Room 0)
     → WriteDone (inRoom (length old) text) old a old
 unfolding inRoom
 room-done text old h e = refused-done old (refuse fault.Room 0) (rw (lt-ltb (length old) (length text) h)) e
 
--- the text's length, and the text with what stood behind it
+-- a text that there is room for
 pub stored-done : (text old : List ℕ) (n : ℕ) {new : List ℕ} → n ≡ length text → length text ≤ length old → new ≡ laid text old
     → WriteDone (inRoom (length old) text) old (Done n) new
-unfolding inRoom writeVerdict
-stored-done text old n e h f = rw (le-ltb (length old) (length text) h, e) (record { answer = refl; buffer = f })
+unfolding inRoom
+stored-done text old n e h f = rw (le-ltb (length old) (length text) h, e, f) (accepted-done text old)
 
 -- the line that a text holds is stored as the text is
 pub line-done : {v : Verdict (List ℕ)} {l old new : List ℕ} {t : Text} {a : WriteAnswer} → v ≡ inRoom (length old) l → Holds l t
