@@ -21,27 +21,27 @@ take-join (suc n) (x ∷ l) m = ap (λ (r : List _). x ∷ r) (take-join n l m)
 pub holds-more : {l m : List ℕ} {t r : Text} → Holds l t → Added t m r → Holds (l ++ m) r
 holds-more {l} {m} h k =
     record {
-    held = k .held ∙ ap (λ (x : List ℕ). take capacity (x ++ m)) (h .held) ∙ take-join capacity l m;
-    short = k .short (h .short);
+      held = k .held ∙ ap (λ (x : List ℕ). take capacity (x ++ m)) (h .held) ∙ take-join capacity l m;
+      short = k .short (h .short);
     }
 
 pub added-none : (t : Text) → length (t .bytes) ≡ capacity → Added t [] t
 unfolding heldIn
 added-none t e =
     record {
-    held = rw append-nil (sym (take-all capacity (take (t .count) (t .bytes)) (let k = length-take (t .count) (t .bytes) in omega arith)));
-    short = λ h. h;
+      held = rw append-nil (sym (take-all capacity (take (t .count) (t .bytes)) (let k = length-take (t .count) (t .bytes) in omega arith)));
+      short = λ h. h;
     }
 
 pub added-two : {t u r : Text} {l m : List ℕ} → Added t l u → Added u m r → Added t (l ++ m) r
 added-two {t} {l} {m} h k =
     record {
-    held =
-        k .held
-        ∙ ap (λ (x : List ℕ). take capacity (x ++ m)) (h .held)
-        ∙ take-join capacity (heldIn t ++ l) m
-        ∙ ap (take capacity) (append-assoc (heldIn t) l m);
-    short = λ s. k .short (h .short s);
+      held =
+          k .held
+          ∙ ap (λ (x : List ℕ). take capacity (x ++ m)) (h .held)
+          ∙ take-join capacity (heldIn t ++ l) m
+          ∙ ap (take capacity) (append-assoc (heldIn t) l m);
+      short = λ s. k .short (h .short s);
     }
 
 -- ---- a byte
@@ -51,10 +51,10 @@ module _ (t : Text) (x : ℕ) (e : length (t .bytes) ≡ capacity) where
   unfolding heldIn
   added-byte h =
       record {
-      held =
-          rw add-one (take-suc-set (t .bytes) (t .count) x (omega arith))
-          ∙ sym (take-all capacity (take (t .count) (t .bytes) ++ (x ∷ [])) (let k = length-append (take (t .count) (t .bytes)) (x ∷ []) in let j = length-take (t .count) (t .bytes) in omega arith));
-      short = λ s. omega arith;
+        held =
+            rw add-one (take-suc-set (t .bytes) (t .count) x (omega arith))
+            ∙ sym (take-all capacity (take (t .count) (t .bytes) ++ (x ∷ [])) (let k = length-append (take (t .count) (t .bytes)) (x ∷ []) in let j = length-take (t .count) (t .bytes) in omega arith));
+        short = λ s. omega arith;
       }
 
   pub added-full : capacity ≤ t .count → Added t (x ∷ []) t
@@ -62,10 +62,10 @@ module _ (t : Text) (x : ℕ) (e : length (t .bytes) ≡ capacity) where
   added-full h =
       let all : take (t .count) (t .bytes) ≡ t .bytes = take-all (t .count) (t .bytes) (omega arith) in
       record {
-      held =
-          rw all
-          (sym (take-append-le capacity (t .bytes) (x ∷ []) (omega arith) ∙ take-all capacity (t .bytes) (omega arith)));
-      short = λ s. s;
+        held =
+            rw all
+            (sym (take-append-le capacity (t .bytes) (x ∷ []) (omega arith) ∙ take-all capacity (t .bytes) (omega arith)));
+        short = λ s. s;
       }
 
 -- ---- what a text holds

@@ -53,8 +53,8 @@ module _ (a b : WriteAnswer) (old new new′ : List ℕ) where
   pub write-unique : (v : Verdict (List ℕ)) → WriteDone v old a new → WriteDone v old b new′ → Same a b new new′
   write-unique v h k =
       record {
-      answer = verdict-tells-answer a b (answer-tells-verdict (0 ∷ []) (writeVerdict a) (writeVerdict b) (h .answer ∙ sym (k .answer)));
-      buffer = h .buffer ∙ sym (k .buffer);
+        answer = verdict-tells-answer a b (answer-tells-verdict (0 ∷ []) (writeVerdict a) (writeVerdict b) (h .answer ∙ sym (k .answer)));
+        buffer = h .buffer ∙ sym (k .buffer);
       }
 
   -- `write_vertex`

@@ -27,14 +27,14 @@ record Stored (old : List ℕ) (n : ℕ) (bytes new : List ℕ) (i : ℕ) : Type
 step : {old bytes new : List ℕ} {n i : ℕ} → Stored old n bytes new i → i < n → Stored old n bytes (set new i (getD bytes i 0)) (i + 1)
 step {old} {bytes} {new} {n} {i} h t =
     record {
-    long = h .long;
-    room = h .room;
-    up = omega arith;
-    size = length-set new i (getD bytes i 0) ∙ h .size;
-    same =
-        rw (h .same, add-one i)
-        (ap (λ (k : ℕ). set (paste old 0 bytes i) k (getD bytes i 0)) (sym (zero-add i))
-        ∙ paste-suc old 0 bytes i 0 (omega (arith, h .room)) (omega (arith, h .long)));
+      long = h .long;
+      room = h .room;
+      up = omega arith;
+      size = length-set new i (getD bytes i 0) ∙ h .size;
+      same =
+          rw (h .same, add-one i)
+          (ap (λ (k : ℕ). set (paste old 0 bytes i) k (getD bytes i 0)) (sym (zero-add i))
+          ∙ paste-suc old 0 bytes i 0 (omega (arith, h .room)) (omega (arith, h .long)));
     }
 
 whole : {old bytes new : List ℕ} {n i : ℕ} → Stored old n bytes new i → n ≤ i → new ≡ laid (take n bytes) old
@@ -61,11 +61,11 @@ returns c =
 loop-holds : tie.Need-loop-holds Inv-loop μ-loop
 loop-holds c =
     record {
-    long = let l : length (c .before .before .before .args .text .bytes) ≡ capacity = search needs in omega (arith, c .before .before .before .pre);
-    room = c .before .if1 .left;
-    up = omega arith;
-    size = refl;
-    same = paste-zero (now (c .before .before .before .args .buffer)) 0 (c .before .before .before .args .text .bytes);
+      long = let l : length (c .before .before .before .args .text .bytes) ≡ capacity = search needs in omega (arith, c .before .before .before .pre);
+      room = c .before .if1 .left;
+      up = omega arith;
+      size = refl;
+      same = paste-zero (now (c .before .before .before .args .buffer)) 0 (c .before .before .before .args .text .bytes);
     }
 
 array-read-buffer : tie.Need-array-read-buffer Inv-loop μ-loop

@@ -35,7 +35,7 @@ store-requires : tie.Need-store-requires
 store-requires c κs = search needs
 
 returns : tie.Need-returns
-returns c = 
+returns c =
     let s = c .before .before .before .before .before .before .before in
     refused-done (now (s .args .buffer)) _ (faulty (s .args .t1) _ _ (sym (c .before .before .before .before .judge-record .ensures) ∙ c .before .before .fault .given .1)) (c .refused .ensures)
 
@@ -43,7 +43,7 @@ same-length : tie.Need-same-length
 same-length c = search needs
 
 returns-2 : tie.Need-returns-2
-returns-2 c = 
+returns-2 c =
     let s = c .before .before .before .before .before .before .before .before .before .before in
     let clean : recordFinding vertexLimit (s .args .t1) ≡ Clean = sym (c .before .before .before .before .before .before .before .judge-record .ensures) ∙ c .before .before .before .before .before .enum-told .given .1 in
     line-done (faultless (s .args .t1) _ clean) (c .before .before .before .before .element-line .ensures) (omega (arith, element-line-short (s .args .t1) clean)) (c .before .before .store .ensures)

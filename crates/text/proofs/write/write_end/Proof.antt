@@ -13,7 +13,7 @@ refused-requires : tie.Need-refused-requires
 refused-requires c κs = search needs
 
 returns : tie.Need-returns
-returns c = 
+returns c =
     let s = c .before .before .before in
     refused-done (now (s .args .buffer)) (refuse fault.Many 0) (many-vertices (s .args .vertices) (s .args .elements) _ (c .before .if1 .taken)) (c .refused .ensures)
 
@@ -21,7 +21,7 @@ refused-requires-2 : tie.Need-refused-requires-2
 refused-requires-2 c κs = search needs
 
 returns-2 : tie.Need-returns-2
-returns-2 c = 
+returns-2 c =
     let s = c .before .before .before .before in
     refused-done (now (s .args .buffer)) (refuse fault.Many 0) (many-elements (s .args .vertices) (s .args .elements) _ (c .before .before .if1 .left) (c .before .if2 .taken)) (c .refused2 .ensures)
 
@@ -35,7 +35,7 @@ same-length : tie.Need-same-length
 same-length c = search needs
 
 returns-3 : tie.Need-returns-3
-returns-3 c = 
+returns-3 c =
     let s = c .before .before .before .before .before .before .before .before in
     let v = c .before .before .before .before .before .before .if1 .left in
     let e = c .before .before .before .before .before .if2 .left in

@@ -18,7 +18,7 @@ same-length c = search needs
 
 returns : tie.Need-returns
 unfolding writeRefusalVerdict
-returns c = 
+returns c =
     let r = c .before .before .before .before .before .before .args .refusal in
     line-done refl (c .before .before .before .before .refusal-line .ensures) (refusal-line-short r (search needs) (search needs)) (c .before .before .store .ensures)
 

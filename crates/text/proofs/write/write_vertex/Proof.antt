@@ -24,7 +24,7 @@ refused-requires : tie.Need-refused-requires
 refused-requires c κs = search needs
 
 returns : tie.Need-returns
-returns c = 
+returns c =
     let s = c .before .before .before .before in
     let x : inRange (s .args .x) ≡ false = failed (rw (toZ-ofZ (s .fits .x)) at (c .before .before .in-range .ensures)) (c .before .if1 .taken) in
     refused-done (now (s .args .buffer)) (refuse fault.Range 1) (beyond-x (s .args .x) (s .args .y) (s .args .z) _ x) (c .refused .ensures)
@@ -36,7 +36,7 @@ refused-requires-2 : tie.Need-refused-requires-2
 refused-requires-2 c κs = search needs
 
 returns-2 : tie.Need-returns-2
-returns-2 c = 
+returns-2 c =
     let s = c .before .before .before .before .before .before in
     let x : inRange (s .args .x) ≡ true = passed (rw (toZ-ofZ (s .fits .x)) at (c .before .before .before .before .in-range .ensures)) (c .before .before .before .if1 .left) in
     let y : inRange (s .args .y) ≡ false = failed (rw (toZ-ofZ (s .fits .y)) at (c .before .before .in-range2 .ensures)) (c .before .if2 .taken) in
@@ -49,7 +49,7 @@ refused-requires-3 : tie.Need-refused-requires-3
 refused-requires-3 c κs = search needs
 
 returns-3 : tie.Need-returns-3
-returns-3 c = 
+returns-3 c =
     let s = c .before .before .before .before .before .before .before .before in
     let x : inRange (s .args .x) ≡ true = passed (rw (toZ-ofZ (s .fits .x)) at (c .before .before .before .before .before .before .in-range .ensures)) (c .before .before .before .before .before .if1 .left) in
     let y : inRange (s .args .y) ≡ true = passed (rw (toZ-ofZ (s .fits .y)) at (c .before .before .before .before .in-range2 .ensures)) (c .before .before .before .if2 .left) in
@@ -66,7 +66,7 @@ same-length : tie.Need-same-length
 same-length c = search needs
 
 returns-4 : tie.Need-returns-4
-returns-4 c = 
+returns-4 c =
     let s = c .before .before .before .before .before .before .before .before .before .before .before .before in
     let x : inRange (s .args .x) ≡ true = passed (rw (toZ-ofZ (s .fits .x)) at (c .before .before .before .before .before .before .before .before .before .before .in-range .ensures)) (c .before .before .before .before .before .before .before .before .before .if1 .left) in
     let y : inRange (s .args .y) ≡ true = passed (rw (toZ-ofZ (s .fits .y)) at (c .before .before .before .before .before .before .before .before .in-range2 .ensures)) (c .before .before .before .before .before .before .before .if2 .left) in

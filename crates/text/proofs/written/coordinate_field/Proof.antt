@@ -12,7 +12,7 @@ put-coordinate-requires : tie.Need-put-coordinate-requires
 put-coordinate-requires c κs = search needs
 
 returns : tie.Need-returns
-returns c = 
+returns c =
     let e = toZ-ofZ (c .before .before .fits .z) in
     added-two (c .before .push .ensures) (rw e at (c .put-coordinate .ensures))
 

@@ -27,7 +27,7 @@ push-requires c κs = search needs
 
 returns : tie.Need-returns
 unfolding endLine
-returns c = 
+returns c =
     let a = c .before .before .before .before .before .args in
     let mark : List ℕ = markBytes En in
     let begun = line-start mark (c .before .before .before .before .empty .ensures) (c .before .before .before .put-mark .ensures) in

@@ -20,7 +20,7 @@ put-millimetres-requires c κs = search needs
 
 returns : tie.Need-returns
 unfolding coordinateText
-returns c = 
+returns c =
     let z = c .before .before .before .before .args .z in
     let k = toZ-ofZ (c .before .before .before .before .fits .z) in
     let e : c .before .before .before .magnitude .result ≡ natAbs z = c .before .before .before .magnitude .ensures ∙ ap natAbs k in
@@ -31,7 +31,7 @@ put-millimetres-requires-2 c κs = search needs
 
 returns-2 : tie.Need-returns-2
 unfolding coordinateText
-returns-2 c = 
+returns-2 c =
     let z = c .before .before .before .args .z in
     let k = toZ-ofZ (c .before .before .before .fits .z) in
     let e : c .before .before .magnitude .result ≡ natAbs z = c .before .before .magnitude .ensures ∙ ap natAbs k in

@@ -29,7 +29,7 @@ push-requires-4 : tie.Need-push-requires-4
 push-requires-4 c κs = search needs
 
 returns : tie.Need-returns
-returns c = 
+returns c =
     millimetres-put (c .before .before .before .before .before .before .before .before .args .m) (c .before .before .before .before .before .before .before .put-number .ensures) (c .before .before .before .before .before .before .push .ensures) (c .before .before .before .before .push2 .ensures) (c .before .before .push3 .ensures)
     (c .push4 .ensures) (c .before .before .before .before .before .digit .ensures) (c .before .before .before .digit2 .ensures) (c .before .digit3 .ensures)
 

@@ -11,7 +11,7 @@ put-digits-requires : tie.Need-put-digits-requires
 put-digits-requires c κs = search needs
 
 returns : tie.Need-returns
-returns c = 
+returns c =
     let k = c .before .args .k in
     let e : decimal k ≡ digitsOf 20 k = decimal-digits 19 k (omega arith) in
     rw e (c .put-digits .ensures)

@@ -35,7 +35,7 @@ push-requires c κs = search needs
 
 returns : tie.Need-returns
 unfolding refusalLine
-returns c = 
+returns c =
     let r = c .before .before .before .before .before .before .before .args .refusal in
     let number : List ℕ = decimal (numberOf (r .fault)) in
     let begun = line-start noBytes (c .before .before .before .before .before .before .empty .ensures) (c .before .before .before .before .before .put-two .ensures) in

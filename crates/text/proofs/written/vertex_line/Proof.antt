@@ -32,7 +32,7 @@ push-requires c κs = search needs
 
 returns : tie.Need-returns
 unfolding vertexLine
-returns c = 
+returns c =
     let start = c .before .before .before .before .before .before in
     let mark : List ℕ = markBytes Vx in
     let x : List ℕ = coordinateText (start .args .x) in
