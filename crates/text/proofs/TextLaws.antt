@@ -6,7 +6,7 @@ use native.Mathlib.Omega.{arith}
 use mathlib.Core.Path.{_≡_, refl, sym, ap, _∙_}
 use mathlib.Core.List.{List, [], _∷_, _++_, append-nil, append-assoc}
 use lib.ListN.{length, take, set, length-append, length-take}
-use lib.Seq.{take-all, take-nil, take-suc-set, take-append-le, length-take-le}
+use lib.Seq.{take-all, take-suc-set, take-append-le, length-take-le}
 use Rattle.text.specs.declared.written.Text.{Text}
 use Rattle.text.specs.WriteLoops.{capacity, heldIn, Holds, Added}
 

@@ -1,20 +1,19 @@
 -- Laws of the written lines: a line is put together field by field, and how long each line is at most.
 -- Assumes nothing.
-use Prim.Native.Nat.{ℕ, zero, suc, _+_, _*_, _/_, _%_, _^_, _≤_, _<_}
+use Prim.Native.Nat.{ℕ, suc, _+_, _*_, _/_, _%_, _^_, _≤_, _<_}
 use native.Mathlib.Nat.{le-refl, not-suc-le-zero}
 use native.Mathlib.Numerals.{add-one}
 use native.Mathlib.Omega.{arith}
-use mathlib.Core.Path.{_≡_, refl, sym, ap, _∙_}
+use mathlib.Core.Path.{_≡_, refl, sym, _∙_}
 use mathlib.Core.Bool.{Bool, true, false}
 use mathlib.Core.List.{List, [], _∷_, _++_, map, append-nil, append-assoc, map-append}
-use lib.Dec.{T, ltb, leb, ltb→lt, leb→le}
+use lib.Dec.{T, ltb, leb, leb→le}
 use lib.IntN.{ℤ, pos, negsuc, natAbs}
 use lib.ListN.{length, getD, take, length-append, List·getD-eq-default}
 use lib.Seq.{take-all, take-suc}
 use lib.Signed.{ltZ}
 use borrow.Author.Tests.{ltb-true, ltb-false}
 use Rattle.laws.specs.Words.{gather, every}
-use Rattle.laws.specs.Sizes.{Within}
 use Rattle.laws.proofs.TestLaws.{and-left, and-right}
 use Rattle.laws.proofs.GatherLaws.{gather-append}
 use Rattle.faults.specs.Refusals.{numberOf}
@@ -26,7 +25,7 @@ use Rattle.faults.specs.declared.Finding.the-variants.{Clean}
 use Rattle.volume.specs.Volume.{inRange}
 use Rattle.volume.proofs.RangeLaws.{in-range-within}
 use Rattle.records.specs.Record.{kindOf, usedOf, cornerAt, recordFinding}
-use Rattle.records.specs.Loops.{isNumber, Faultless}
+use Rattle.records.specs.Loops.{isNumber}
 use Rattle.records.proofs.RecordLaws.{clean-faultless, clean-whole, used-length, kind-small, corner-used}
 use Rattle.text.specs.Constants.{lineEnd, space, minus, point, vertexLimit, tetrahedronLimit}
 use Rattle.text.specs.Line.{markBytes}

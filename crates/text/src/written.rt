@@ -29,7 +29,7 @@ const LONGEST_NUMBER: usize = 20;
 
 // A text by value: the first `count` of its bytes.
 pub struct Text {
-    pub bytes: [u8; 48],
+    pub bytes: [u8; CAPACITY],
     pub count: usize,
 }
 
@@ -38,7 +38,7 @@ fn empty() -> Text
     ensures { λ r. ⌜ Holds [] r ⌝ }
 {
     Text {
-        bytes: [0u8; 48],
+        bytes: [0u8; CAPACITY],
         count: 0,
     }
 }

@@ -8,7 +8,7 @@ use native.Mathlib.Numerals.{add-one}
 use native.Mathlib.Omega.{arith}
 use borrow.Author.Needs.{needs}
 use denote.Ref.{now}
-use lib.ListN.{length, take, drop, getD, set, length-set}
+use lib.ListN.{length, take, getD, set, length-set}
 use lib.Seq.{paste, paste-zero, paste-suc, length-take-le}
 use Rattle.laws.specs.Lent.{laid}
 use Rattle.text.specs.WriteLoops.{capacity, heldIn}

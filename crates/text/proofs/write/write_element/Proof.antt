@@ -3,9 +3,7 @@ use native.Mathlib.Omega.{arith}
 use mathlib.Core.Path.{_≡_, sym, _∙_}
 use borrow.Author.Needs.{needs}
 use denote.Ref.{now}
-use Rattle.faults.specs.Refusals.{refuse}
-use Rattle.faults.specs.declared.Fault.the-variants as fault
-use Rattle.faults.specs.declared.Finding.the-variants.{Clean, Found}
+use Rattle.faults.specs.declared.Finding.the-variants.{Clean}
 use Rattle.records.specs.Record.{recordFinding}
 use Rattle.text.specs.Constants.{vertexLimit}
 use Rattle.text.proofs.WrittenLaws.{element-line-short}

@@ -2,7 +2,6 @@
 use native.Mathlib.Omega.{arith}
 use mathlib.Core.Path.{_≡_}
 use mathlib.Core.Bool.{true, false}
-use lib.ListN.{length}
 use borrow.Author.Needs.{needs}
 use mir.Facts.{toZ-ofZ}
 use denote.Ref.{now}
@@ -10,8 +9,6 @@ use Rattle.faults.specs.Refusals.{refuse}
 use Rattle.faults.specs.declared.Fault.the-variants as fault
 use Rattle.volume.specs.Volume.{inRange}
 use Rattle.volume.proofs.RangeLaws.{failed, passed}
-use Rattle.text.specs.Constants.{lineEnd}
-use Rattle.text.specs.Written.{closed, vertexLine}
 use Rattle.text.proofs.WrittenLaws.{vertex-line-short}
 use Rattle.text.proofs.WriteLaws.{refused-done, line-done, beyond-x, beyond-y, beyond-z, within}
 use Rattle.text.proofs.write.write_vertex.Statement.{statement}

@@ -1,5 +1,4 @@
 -- `text::written::vertex_line` makes the line of a vertex. Assumes nothing.
-use mathlib.Core.Path.{_≡_}
 use mathlib.Core.List.{List, [], _∷_}
 use Prim.Native.Nat.{ℕ}
 use borrow.Author.Needs.{needs}
