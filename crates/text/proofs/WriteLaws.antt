@@ -2,7 +2,7 @@
 -- on a vertex, an element and EN by the tests that lead to it. Assumes nothing.
 use Prim.Native.Nat.{ℕ, _≤_, _<_}
 use mathlib.Core.Path.{_≡_, refl, sym}
-use mathlib.Core.Bool.{true, false}
+use mathlib.Core.Bool.{true, false, _&&_}
 use mathlib.Core.List.{List}
 use lib.IntN.{ℤ}
 use lib.ListN.{length}
@@ -57,23 +57,13 @@ line-done e h s w = rw (e, ← holds-whole h s) w
 -- ---- the verdicts
 
 module _ (x y z : ℤ) (room : ℕ) where
-  pub beyond-x : inRange x ≡ false → writeVertexVerdict x y z room ≡ refused (refuse fault.Range 1)
+  pub beyond : (inRange x && (inRange y && inRange z)) ≡ false → writeVertexVerdict x y z room ≡ refused (refuse fault.Range 1)
   unfolding writeVertexVerdict
-  beyond-x h = rw h
+  beyond h = rw h
 
-  module _ (hx : inRange x ≡ true) where
-    pub beyond-y : inRange y ≡ false → writeVertexVerdict x y z room ≡ refused (refuse fault.Range 1)
-    unfolding writeVertexVerdict
-    beyond-y h = rw (hx, h)
-
-    module _ (hy : inRange y ≡ true) where
-      pub beyond-z : inRange z ≡ false → writeVertexVerdict x y z room ≡ refused (refuse fault.Range 1)
-      unfolding writeVertexVerdict
-      beyond-z h = rw (hx, hy, h)
-
-      pub within : inRange z ≡ true → writeVertexVerdict x y z room ≡ inRoom room (closed (vertexLine x y z))
-      unfolding writeVertexVerdict
-      within h = rw (hx, hy, h)
+  pub within : (inRange x && (inRange y && inRange z)) ≡ true → writeVertexVerdict x y z room ≡ inRoom room (closed (vertexLine x y z))
+  unfolding writeVertexVerdict
+  within h = rw h
 
 module _ (r : List ℕ) (room : ℕ) where
   pub faulty : (f : Fault) → recordFinding vertexLimit r ≡ Found f → writeElementVerdict r room ≡ refused (refuse f 1)

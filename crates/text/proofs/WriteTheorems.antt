@@ -3,7 +3,7 @@
 -- Assumes nothing.
 use Prim.Native.Nat.{ℕ, suc, _^_, _≤_, _<_}
 use mathlib.Core.Path.{_≡_, refl, sym, ap, _∙_}
-use mathlib.Core.Bool.{Bool, true, false, cond}
+use mathlib.Core.Bool.{Bool, true, false, cond, _&&_}
 use mathlib.Core.List.{List, [], _∷_}
 use lib.Dec.{eqb}
 use lib.IntN.{ℤ, pos, negsuc}
@@ -112,10 +112,10 @@ module _ (a : WriteAnswer) (old new : List ℕ) where
     room-refused l = refused-left (refuse fault.Room 0) (rw (e, lt-ltb (length old) (length text) l) at h)
 
   -- `write_vertex`, with coordinates within the limits
-  pub vertex-written : (x y z : ℤ) → inRange x ≡ true → inRange y ≡ true → inRange z ≡ true
+  pub vertex-written : (x y z : ℤ) → (inRange x && (inRange y && inRange z)) ≡ true
       → WriteDone (writeVertexVerdict x y z (length old)) old a new
       → length (closed (vertexLine x y z)) ≤ length old → Written (closed (vertexLine x y z))
-  vertex-written x y z hx hy hz = room-written (closed (vertexLine x y z)) (writeVertexVerdict x y z (length old)) (within x y z (length old) hx hy hz)
+  vertex-written x y z h = room-written (closed (vertexLine x y z)) (writeVertexVerdict x y z (length old)) (within x y z (length old) h)
 
   -- `write_element`, with a record without a fault
   pub element-written : (r : List ℕ) → recordFinding vertexLimit r ≡ Clean → WriteDone (writeElementVerdict r (length old)) old a new
@@ -173,7 +173,7 @@ decimal-digits = D.decimal-digits
 pub decimal-short : (f k : ℕ) → k < 10 ^ suc f → length (decimal k) ≤ suc f
 decimal-short = D.decimal-short
 
-pub vertex-line-short : (x y z : ℤ) → inRange x ≡ true → inRange y ≡ true → inRange z ≡ true → length (closed (vertexLine x y z)) ≤ 30
+pub vertex-line-short : (x y z : ℤ) → (inRange x && (inRange y && inRange z)) ≡ true → length (closed (vertexLine x y z)) ≤ 30
 vertex-line-short = W.vertex-line-short
 
 pub element-line-short : (r : List ℕ) → recordFinding vertexLimit r ≡ Clean → length (closed (elementLine r)) ≤ 43

@@ -5,7 +5,7 @@ use native.Mathlib.Nat.{le-refl, not-suc-le-zero}
 use native.Mathlib.Numerals.{add-one}
 use native.Mathlib.Omega.{arith}
 use mathlib.Core.Path.{_≡_, refl, sym, _∙_}
-use mathlib.Core.Bool.{Bool, true, false}
+use mathlib.Core.Bool.{Bool, true, false, _&&_}
 use mathlib.Core.List.{List, [], _∷_, _++_, map, append-nil, append-assoc, map-append}
 use lib.Dec.{T, ltb, leb, leb→le}
 use lib.IntN.{ℤ, pos, negsuc, natAbs}
@@ -128,12 +128,18 @@ coordinate-short z h =
     let d : length (decimal (m / 1000)) ≤ 3 = decimal-short 2 (m / 1000) (omega arith) in
     simp length-append (omega (arith, sign-short z))
 
+both : (a b : Bool) → a && b ≡ true → (a ≡ true) × (b ≡ true)
+both true b h = (refl, h)
+both false b h = (h, cc)
+
 -- `VX -500.000 -500.000 -500.000` and its byte 10
-pub vertex-line-short : (x y z : ℤ) → inRange x ≡ true → inRange y ≡ true → inRange z ≡ true → length (closed (vertexLine x y z)) ≤ 30
+pub vertex-line-short : (x y z : ℤ) → (inRange x && (inRange y && inRange z)) ≡ true → length (closed (vertexLine x y z)) ≤ 30
 unfolding vertexLine
-vertex-line-short x y z hx hy hz =
+vertex-line-short x y z h =
+    let hx = both (inRange x) (inRange y && inRange z) h in
+    let hyz = both (inRange y) (inRange z) (hx .1) in
     rw (line-length (markBytes Vx) (coordinateText x ∷ coordinateText y ∷ coordinateText z ∷ []))
-    (simp length-append (omega (arith, coordinate-short x hx, coordinate-short y hy, coordinate-short z hz)))
+    (simp length-append (omega (arith, coordinate-short x (hx .0), coordinate-short y (hyz .0), coordinate-short z (hyz .1))))
 
 -- a vertex number: four digits
 numbers-short : (l : List ℕ) → T (every (isNumber vertexLimit) l) → length (gather (λ (f : List ℕ). space ∷ f) (map decimal l)) ≤ 5 * length l

@@ -11,6 +11,7 @@ use faults::Refusal;
 use records::judge_record;
 use volume::LIMIT;
 ghost use mathlib.Core.Path.{_≡_};
+ghost use mathlib.Core.Bool.{_&&_};
 ghost use Prim.Native.Nat.{_≤_};
 ghost use lib.ListN.{length};
 ghost use Rattle.faults.specs.Refusals.{refuse};
@@ -64,20 +65,27 @@ fn in_range(z: i32) -> bool
     -LIMIT <= z && z <= LIMIT
 }
 
+// Whether each coordinate of a vertex lies within the limits.
+fn all_in_range(x: i32, y: i32, z: i32) -> bool
+    ensures { λ r. ⌜ r ≡ (inRange x && (inRange y && inRange z)) ⌝ }
+{
+    if !in_range(x) {
+        return false;
+    }
+    if !in_range(y) {
+        return false;
+    }
+    in_range(z)
+}
+
 // The record of a vertex: RANGE, then ROOM.
 pub fn write_vertex(x: i32, y: i32, z: i32, buffer: &mut [u8]) -> WriteAnswer
     ensures { λ r. ⌜ WriteDone (writeVertexVerdict x y z (length (now (buffer .entry)))) (now (buffer .entry)) r (now (buffer .exit)) ⌝ }
 {
-    if !in_range(x) {
-        return refused(Fault::Range, 1);
+    if all_in_range(x, y, z) {
+        return store(vertex_line(x, y, z), buffer);
     }
-    if !in_range(y) {
-        return refused(Fault::Range, 1);
-    }
-    if !in_range(z) {
-        return refused(Fault::Range, 1);
-    }
-    store(vertex_line(x, y, z), buffer)
+    refused(Fault::Range, 1)
 }
 
 // The record of an element: KIND, VERTEX, SPARE, REPEAT, then ROOM.
