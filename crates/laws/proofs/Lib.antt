@@ -5,6 +5,8 @@ pub mod PieceLaws
 pub mod LentLaws
 pub mod SearchLaws
 pub mod SizeLaws
+pub mod SignLaws
+pub mod GatherLaws
 pub mod IntegerLaws
 pub mod WordLaws
 pub mod PassLaws

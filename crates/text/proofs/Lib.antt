@@ -1,3 +1,8 @@
+pub mod DecimalLaws
+pub mod TextLaws
+pub mod WrittenLaws
+pub mod WriteLaws
+pub mod WriteTheorems
 pub mod PartLaws
 pub mod NumberLaws
 pub mod MarkLaws

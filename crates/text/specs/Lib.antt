@@ -5,4 +5,6 @@ pub mod Line
 pub mod File
 pub mod Records
 pub mod Written
+pub mod Writing
+pub mod WriteLoops
 pub mod Loops

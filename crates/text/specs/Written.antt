@@ -6,12 +6,15 @@ use mathlib.Core.List.{List, [], _∷_, _++_, map}
 use lib.ListN.{length, getD, take, drop}
 use lib.Dec.{eqb, leb, ltb}
 use lib.IntN.{ℤ, pos, negsuc, natAbs}
-use Rattle.laws.specs.Words.{gather, every, distinct}
-use Rattle.faults.specs.Refusals.{Verdict, accepted, refused, refuse, numberOf}
-use Rattle.faults.specs.declared.Fault.{Fault}
+use Rattle.laws.specs.Words.{gather}
+use Rattle.faults.specs.Refusals.{Verdict, accepted, refused, refuse, refuseIf, numberOf}
+use Rattle.faults.specs.declared.Finding.{Finding}
+use Rattle.faults.specs.declared.Finding.the-variants.{Clean, Found}
+use Rattle.volume.specs.Volume.{inRange}
+use Rattle.records.specs.Record.{kindOf, usedOf, recordFinding}
 use Rattle.faults.specs.declared.Fault.the-variants as fault
 use Rattle.faults.specs.declared.Refusal.{Refusal}
-use Rattle.text.specs.Constants.{lineEnd, space, minus, point, digit0, vertexLimit, tetrahedronLimit, coordinateLimit, vertexWidth, elementWidth}
+use Rattle.text.specs.Constants.{lineEnd, space, minus, point, digit0, vertexLimit, tetrahedronLimit, vertexWidth, elementWidth}
 use Rattle.text.specs.Line.{markBytes, after}
 use Rattle.text.specs.File.{start}
 use Rattle.text.specs.declared.terms.Mark.{Mark}
@@ -65,19 +68,9 @@ vertexLine x y z = lineWith (markBytes Vx) (coordinateText x ∷ coordinateText 
 unfoldable pub markOfKind : ℕ → Mark
 markOfKind k = cond (eqb k 4) Te (cond (eqb k 5) Py (cond (eqb k 6) Pr (cond (eqb k 8) Hx Unknown)))
 
--- the kind of an element record, which is its corner count; its vertex numbers; its unused ones
-abbrev pub kindIn : List ℕ → ℕ
-kindIn r = getD r 0 0
-
-abbrev pub cornersIn : List ℕ → List ℕ
-cornersIn r = take (kindIn r) (drop 1 r)
-
-abbrev pub sparesIn : List ℕ → List ℕ
-sparesIn r = drop (kindIn r) (drop 1 r)
-
 -- TE, PY, PR or HX and the vertex numbers
 unfoldable pub elementLine : List ℕ → List ℕ
-elementLine r = lineWith (markBytes (markOfKind (kindIn r))) (map decimal (cornersIn r))
+elementLine r = lineWith (markBytes (markOfKind (kindOf r))) (map decimal (usedOf r))
 
 -- EN with the two counts
 unfoldable pub endLine : (vertices elements : ℕ) → List ℕ
@@ -113,46 +106,28 @@ writtenFile vt et v e = gather closed (fileLines vt et v e)
 
 -- ---- the verdicts of the record writers: a record writer's record is 1, a count and a lent length have place 0
 
--- ROOM for a text in a buffer; else its length
-unfoldable pub inRoom : ℕ → List ℕ → Verdict ℕ
-inRoom room text = cond (ltb room (length text)) (refused (refuse fault.Room 0)) (accepted (length text))
-
--- refused where the test holds; else what comes next
-abbrev pub refusedIf : Bool → Refusal → Verdict ℕ → Verdict ℕ
-refusedIf test r next = cond test (refused r) next
-
--- beyond the limits
-abbrev pub beyond : ℤ → Bool
-beyond z = ltb coordinateLimit (natAbs z)
+-- ROOM for a text in a buffer; else the text
+unfoldable pub inRoom : ℕ → List ℕ → Verdict (List ℕ)
+inRoom room text = refuseIf (ltb room (length text)) (refuse fault.Room 0) (accepted text)
 
 -- RANGE for a vertex; then ROOM
-unfoldable pub writeVertexVerdict : (x y z : ℤ) (room : ℕ) → Verdict ℕ
+unfoldable pub writeVertexVerdict : (x y z : ℤ) (room : ℕ) → Verdict (List ℕ)
 writeVertexVerdict x y z room =
-    refusedIf (beyond x || beyond y || beyond z) (refuse fault.Range 1)
-    (inRoom room (closed (vertexLine x y z)))
+    refuseIf (not (inRange x && (inRange y && inRange z))) (refuse fault.Range 1) (inRoom room (closed (vertexLine x y z)))
 
--- a kind other than 4, 5, 6, 8
-abbrev pub badKind : ℕ → Bool
-badKind k = not (eqb k 4 || eqb k 5 || eqb k 6 || eqb k 8)
-
--- a vertex number 0 or above the limit
-abbrev pub badVertex : ℕ → Bool
-badVertex v = eqb v 0 || ltb vertexLimit v
+-- the first fault of a record, or what comes next
+abbrev pub unlessFound : Finding → Verdict (List ℕ) → Verdict (List ℕ)
+unlessFound Clean next = next
+unlessFound (Found f) next = refused (refuse f 1)
 
 -- KIND, VERTEX (limit 4,096), SPARE, REPEAT for an element; then ROOM
-unfoldable pub writeElementVerdict : List ℕ → (room : ℕ) → Verdict ℕ
-writeElementVerdict r room =
-    refusedIf (badKind (kindIn r)) (refuse fault.Kind 1)
-    (refusedIf (not (every (λ v. not (badVertex v)) (cornersIn r))) (refuse fault.Vertex 1)
-    (refusedIf (not (every (eqb 0) (sparesIn r))) (refuse fault.Spare 1)
-    (refusedIf (not (distinct (cornersIn r))) (refuse fault.Repeat 1)
-    (inRoom room (closed (elementLine r))))))
+unfoldable pub writeElementVerdict : List ℕ → (room : ℕ) → Verdict (List ℕ)
+writeElementVerdict r room = unlessFound (recordFinding vertexLimit r) (inRoom room (closed (elementLine r)))
 
 -- MANY for EN, whose element limit is 6,144; then ROOM
-unfoldable pub writeEndVerdict : (vertices elements room : ℕ) → Verdict ℕ
+unfoldable pub writeEndVerdict : (vertices elements room : ℕ) → Verdict (List ℕ)
 writeEndVerdict v e room =
-    refusedIf (ltb vertexLimit v || ltb tetrahedronLimit e) (refuse fault.Many 0)
-    (inRoom room (closed (endLine v e)))
+    refuseIf (ltb vertexLimit v || ltb tetrahedronLimit e) (refuse fault.Many 0) (inRoom room (closed (endLine v e)))
 
 -- ---- a refusal
 

@@ -8,6 +8,8 @@ mod number;
 mod scan;
 mod store;
 pub mod terms;
+pub mod write;
+mod written;
 
 use faults::Refusal;
 ghost use Rattle.text.specs.Records.{ReadDone};

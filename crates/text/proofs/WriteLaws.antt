@@ -1,0 +1,89 @@
+-- Laws of the writers' common contract: a refusal that leaves the buffer alone, a text that is stored where there is room, and the verdict
+-- on a vertex, an element and EN by the tests that lead to it. Assumes nothing.
+use Prim.Native.Nat.{ℕ, _≤_, _<_}
+use mathlib.Core.Path.{_≡_, refl, sym}
+use mathlib.Core.Bool.{true, false, _&&_}
+use mathlib.Core.List.{List}
+use lib.IntN.{ℤ}
+use lib.ListN.{length}
+use borrow.Author.Tests.{lt-ltb, le-ltb}
+use Rattle.laws.specs.Lent.{laid}
+use Rattle.laws.proofs.LentLaws.{laid-none}
+use Rattle.faults.specs.Refusals.{Verdict, accepted, refused, refuse}
+use Rattle.faults.specs.declared.Refusal.{Refusal}
+use Rattle.faults.specs.declared.Finding.the-variants.{Clean, Found}
+use Rattle.faults.specs.declared.Fault.{Fault}
+use Rattle.faults.specs.declared.Fault.the-variants as fault
+use Rattle.volume.specs.Volume.{inRange}
+use Rattle.records.specs.Record.{recordFinding}
+use Rattle.text.specs.Constants.{vertexLimit, tetrahedronLimit}
+use Rattle.text.specs.Written.{closed, vertexLine, elementLine, endLine, inRoom, writeVertexVerdict, writeElementVerdict, writeEndVerdict}
+use Rattle.text.specs.Writing.{writeVerdict, WriteDone}
+use Rattle.text.specs.WriteLoops.{capacity, heldIn, Holds}
+use Rattle.text.specs.declared.write.WriteAnswer.{WriteAnswer}
+use Rattle.text.specs.declared.write.WriteAnswer.the-variants.{Done, Refused}
+use Rattle.text.specs.declared.written.Text.{Text}
+use Rattle.text.proofs.TextLaws.{holds-whole}
+
+-- ---- what meets the contract
+
+-- a refusal, and the buffer as it was
+pub refused-done : (old : List ℕ) (r : Refusal) {v : Verdict (List ℕ)} {a : WriteAnswer} → v ≡ refused r → a ≡ Refused r → WriteDone v old a old
+unfolding writeVerdict
+refused-done old r e f = rw (e, f) (record { answer = refl; buffer = sym (laid-none old) })
+
+-- a text's length, and the text with what stood behind it
+pub accepted-done : (text old : List ℕ) → WriteDone (accepted text) old (Done (length text)) (laid text old)
+unfolding writeVerdict
+accepted-done text old = record { answer = refl; buffer = refl }
+
+-- ROOM, and the buffer as it was
+pub room-done : (text old : List ℕ) {a : WriteAnswer} → length old < length text → a ≡ Refused (refuse fault.Room 0)
+    → WriteDone (inRoom (length old) text) old a old
+unfolding inRoom
+room-done text old h e = refused-done old (refuse fault.Room 0) (rw (lt-ltb (length old) (length text) h)) e
+
+-- a text that there is room for
+pub stored-done : (text old : List ℕ) (n : ℕ) {new : List ℕ} → n ≡ length text → length text ≤ length old → new ≡ laid text old
+    → WriteDone (inRoom (length old) text) old (Done n) new
+unfolding inRoom
+stored-done text old n e h f = rw (le-ltb (length old) (length text) h, e, f) (accepted-done text old)
+
+-- the line that a text holds is stored as the text is
+pub line-done : {v : Verdict (List ℕ)} {l old new : List ℕ} {t : Text} {a : WriteAnswer} → v ≡ inRoom (length old) l → Holds l t
+    → length l ≤ capacity → WriteDone (inRoom (length old) (heldIn t)) old a new → WriteDone v old a new
+line-done e h s w = rw (e, ← holds-whole h s) w
+
+-- ---- the verdicts
+
+module _ (x y z : ℤ) (room : ℕ) where
+  pub beyond : (inRange x && (inRange y && inRange z)) ≡ false → writeVertexVerdict x y z room ≡ refused (refuse fault.Range 1)
+  unfolding writeVertexVerdict
+  beyond h = rw h
+
+  pub within : (inRange x && (inRange y && inRange z)) ≡ true → writeVertexVerdict x y z room ≡ inRoom room (closed (vertexLine x y z))
+  unfolding writeVertexVerdict
+  within h = rw h
+
+module _ (r : List ℕ) (room : ℕ) where
+  pub faulty : (f : Fault) → recordFinding vertexLimit r ≡ Found f → writeElementVerdict r room ≡ refused (refuse f 1)
+  unfolding writeElementVerdict
+  faulty f h = rw h
+
+  pub faultless : recordFinding vertexLimit r ≡ Clean → writeElementVerdict r room ≡ inRoom room (closed (elementLine r))
+  unfolding writeElementVerdict
+  faultless h = rw h
+
+module _ (v e room : ℕ) where
+  pub many-vertices : vertexLimit < v → writeEndVerdict v e room ≡ refused (refuse fault.Many 0)
+  unfolding writeEndVerdict
+  many-vertices h = rw (lt-ltb vertexLimit v h)
+
+  module _ (few : v ≤ vertexLimit) where
+    pub many-elements : tetrahedronLimit < e → writeEndVerdict v e room ≡ refused (refuse fault.Many 0)
+    unfolding writeEndVerdict
+    many-elements h = rw (le-ltb vertexLimit v few, lt-ltb tetrahedronLimit e h)
+
+    pub few-of-both : e ≤ tetrahedronLimit → writeEndVerdict v e room ≡ inRoom room (closed (endLine v e))
+    unfolding writeEndVerdict
+    few-of-both h = rw (le-ltb vertexLimit v few, le-ltb tetrahedronLimit e h)

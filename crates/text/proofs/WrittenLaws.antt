@@ -1,0 +1,190 @@
+-- Laws of the written lines: a line is put together field by field, and how long each line is at most.
+-- Assumes nothing.
+use Prim.Native.Nat.{ℕ, suc, _+_, _*_, _/_, _%_, _^_, _≤_, _<_}
+use native.Mathlib.Nat.{le-refl, not-suc-le-zero}
+use native.Mathlib.Numerals.{add-one}
+use native.Mathlib.Omega.{arith}
+use mathlib.Core.Path.{_≡_, refl, sym, _∙_}
+use mathlib.Core.Bool.{Bool, true, false, _&&_}
+use mathlib.Core.List.{List, [], _∷_, _++_, map, append-nil, append-assoc, map-append}
+use lib.Dec.{T, ltb, leb, leb→le}
+use lib.IntN.{ℤ, pos, negsuc, natAbs}
+use lib.ListN.{length, getD, take, length-append, List·getD-eq-default}
+use lib.Seq.{take-all, take-suc}
+use lib.Signed.{ltZ}
+use borrow.Author.Tests.{ltb-true, ltb-false}
+use Rattle.laws.specs.Words.{gather, every}
+use Rattle.laws.proofs.TestLaws.{and-left, and-right}
+use Rattle.laws.proofs.GatherLaws.{gather-append}
+use Rattle.faults.specs.Refusals.{numberOf}
+use Rattle.faults.specs.declared.Fault.{Fault}
+use Rattle.faults.specs.declared.Fault.the-variants as fault
+use Rattle.faults.proofs.Theorems.{faults, listed}
+use Rattle.faults.specs.declared.Refusal.{Refusal}
+use Rattle.faults.specs.declared.Finding.the-variants.{Clean}
+use Rattle.volume.specs.Volume.{inRange}
+use Rattle.volume.proofs.RangeLaws.{in-range-within}
+use Rattle.records.specs.Record.{kindOf, usedOf, cornerAt, recordFinding}
+use Rattle.records.specs.Loops.{isNumber}
+use Rattle.records.proofs.RecordLaws.{clean-faultless, clean-whole, used-length, kind-small, corner-used}
+use Rattle.text.specs.Constants.{lineEnd, space, minus, point, vertexLimit, tetrahedronLimit}
+use Rattle.text.specs.Line.{markBytes}
+use Rattle.text.specs.Written.{digit, decimal, signOf, millimetresOf, coordinateText, lineWith, closed, vertexLine, markOfKind, elementLine, endLine, refusalLine}
+use Rattle.text.specs.WriteLoops.{Holds, Added}
+use Rattle.text.specs.declared.terms.Mark.{Mark}
+use Rattle.text.specs.declared.terms.Mark.the-variants.{Vx, Te, Py, Pz, Pr, Hx, En, Unknown}
+use Rattle.text.specs.declared.written.Text.{Text}
+use Rattle.text.proofs.DecimalLaws.{decimal-short}
+use Rattle.text.proofs.TextLaws.{holds-more, added-two}
+
+-- ---- a sign
+
+pub minus-sign : (z : ℤ) → ltZ z (pos 0) ≡ true → signOf z ≡ minus ∷ []
+unfolding signOf
+minus-sign (pos n) h = absurd (not-suc-le-zero (ltb-true n 0 h))
+minus-sign (negsuc n) h = refl
+
+pub no-sign : (z : ℤ) → ltZ z (pos 0) ≡ false → signOf z ≡ []
+unfolding signOf
+no-sign (pos n) h = refl
+no-sign (negsuc n) h = let z : _≡_ {A = ℕ} 0 1 = cc in let q : ⊥ = omega arith in absurd q
+
+-- ---- whole millimetres, a point and three decimals
+
+pub millimetres-put : (m : ℕ) {t a b c d r : Text} {x y z : ℕ}
+    → Added t (decimal (m / 1000)) a → Added a (point ∷ []) b → Added b (x ∷ []) c → Added c (y ∷ []) d → Added d (z ∷ []) r
+    → x ≡ digit (m / 100 % 10) → y ≡ digit (m / 10 % 10) → z ≡ digit (m % 10) → Added t (millimetresOf m) r
+unfolding millimetresOf
+millimetres-put m ha hb hc hd hr ex ey ez =
+    rw (← ex, ← ey, ← ez) (added-two ha (added-two hb (added-two hc (added-two hd hr))))
+
+-- ---- a line, field by field
+
+module _ (mark : List ℕ) {t r : Text} where
+  -- the mark alone
+  pub line-start : Holds [] t → Added t mark r → Holds (lineWith mark []) r
+  unfolding lineWith
+  line-start h k = rw (append-nil mark) (holds-more h k)
+
+  -- a field more
+  pub line-field : (fields : List (List ℕ)) (f : List ℕ) → Holds (lineWith mark fields) t → Added t (space ∷ f) r
+      → Holds (lineWith mark (fields ++ (f ∷ []))) r
+  unfolding lineWith
+  line-field fields f h k =
+      rw (gather-append (λ (g : List ℕ). space ∷ g) fields (f ∷ []), append-nil (space ∷ f), ← append-assoc mark (gather (λ (g : List ℕ). space ∷ g) fields) (space ∷ f))
+      (holds-more h k)
+
+-- ---- the line of an element, corner by corner
+
+-- the mark and the first p vertex numbers
+abbrev pub elementPart : List ℕ → ℕ → List ℕ
+elementPart r p = lineWith (markBytes (markOfKind (kindOf r))) (map decimal (take p (usedOf r)))
+
+module _ (r : List ℕ) (clean : recordFinding vertexLimit r ≡ Clean) where
+  pub kind-of-clean : kindOf r ≤ 8
+  kind-of-clean = kind-small (kindOf r) (clean-faultless vertexLimit r clean .kind)
+
+  corner-count : length (usedOf r) ≡ kindOf r
+  corner-count = used-length r (clean-whole vertexLimit r clean)
+
+  pub element-corner : (p v : ℕ) {t u : Text} → p < kindOf r → v ≡ cornerAt r (p + 1) → Holds (elementPart r p) t → Added t (space ∷ decimal v) u
+      → Holds (elementPart r (p + 1)) u
+  element-corner p v {t} {u} l e h k =
+      let s : v ≡ getD (usedOf r) p 0 = e ∙ rw (add-one p) (corner-used r (suc p) (omega arith)) in
+      rw (add-one p, take-suc (usedOf r) p 0 (rw corner-count l), map-append decimal (take p (usedOf r)) (getD (usedOf r) p 0 ∷ []), ← s)
+      (line-field (markBytes (markOfKind (kindOf r))) (map decimal (take p (usedOf r))) (decimal v) h k)
+
+  pub element-closed : (p : ℕ) {t u : Text} → kindOf r ≤ p → Holds (elementPart r p) t → Added t (lineEnd ∷ []) u → Holds (closed (elementLine r)) u
+  unfolding elementLine
+  element-closed p l h k = holds-more (rw (take-all p (usedOf r) (rw corner-count l)) at h) k
+
+-- ---- how long a line is
+
+line-length : (mark : List ℕ) (fields : List (List ℕ)) → length (closed (lineWith mark fields)) ≡ length mark + length (gather (λ (f : List ℕ). space ∷ f) fields) + 1
+unfolding lineWith
+line-length mark fields = simp length-append
+
+mark-short : (m : Mark) → length (markBytes m) ≤ 2
+mark-short Vx = le-refl 2
+mark-short Te = le-refl 2
+mark-short Py = le-refl 2
+mark-short Pz = le-refl 2
+mark-short Pr = le-refl 2
+mark-short Hx = le-refl 2
+mark-short En = le-refl 2
+mark-short Unknown = omega arith
+
+-- a coordinate within the limits: a minus, three digits, a point, three decimals
+sign-short : (z : ℤ) → length (signOf z) ≤ 1
+unfolding signOf
+sign-short (pos n) = omega arith
+sign-short (negsuc n) = le-refl 1
+
+pub coordinate-short : (z : ℤ) → inRange z ≡ true → length (coordinateText z) ≤ 8
+unfolding coordinateText millimetresOf
+coordinate-short z h =
+    let m : ℕ = natAbs z in
+    let w = in-range-within z h .abs in
+    let d : length (decimal (m / 1000)) ≤ 3 = decimal-short 2 (m / 1000) (omega arith) in
+    simp length-append (omega (arith, sign-short z))
+
+both : (a b : Bool) → a && b ≡ true → (a ≡ true) × (b ≡ true)
+both true b h = (refl, h)
+both false b h = (h, cc)
+
+-- `VX -500.000 -500.000 -500.000` and its byte 10
+pub vertex-line-short : (x y z : ℤ) → (inRange x && (inRange y && inRange z)) ≡ true → length (closed (vertexLine x y z)) ≤ 30
+unfolding vertexLine
+vertex-line-short x y z h =
+    let hx = both (inRange x) (inRange y && inRange z) h in
+    let hyz = both (inRange y) (inRange z) (hx .1) in
+    rw (line-length (markBytes Vx) (coordinateText x ∷ coordinateText y ∷ coordinateText z ∷ []))
+    (simp length-append (omega (arith, coordinate-short x (hx .0), coordinate-short y (hyz .0), coordinate-short z (hyz .1))))
+
+-- a vertex number: four digits
+numbers-short : (l : List ℕ) → T (every (isNumber vertexLimit) l) → length (gather (λ (f : List ℕ). space ∷ f) (map decimal l)) ≤ 5 * length l
+numbers-short [] h = le-refl 0
+numbers-short (v ∷ l) h =
+    let n : T (isNumber vertexLimit v) = and-left (isNumber vertexLimit v) (every (isNumber vertexLimit) l) h in
+    let b : v ≤ vertexLimit = leb→le v vertexLimit (and-right (ltb 0 v) (leb v vertexLimit) n) in
+    let d : length (decimal v) ≤ 4 = decimal-short 3 v (omega arith) in
+    simp length-append (omega (arith, numbers-short l (and-right (isNumber vertexLimit v) (every (isNumber vertexLimit) l) h)))
+
+-- `HX` with eight numbers of four digits and its byte 10
+pub element-line-short : (r : List ℕ) → recordFinding vertexLimit r ≡ Clean → length (closed (elementLine r)) ≤ 43
+unfolding elementLine
+element-line-short r h =
+    let f = clean-faultless vertexLimit r h in
+    rw (line-length (markBytes (markOfKind (kindOf r))) (map decimal (usedOf r)))
+    (omega
+    (arith, mark-short (markOfKind (kindOf r)), numbers-short (usedOf r) (f .inside), used-length r (clean-whole vertexLimit r h), kind-small (kindOf r) (f .kind)))
+
+-- `EN 4096 6144` and its byte 10
+pub end-line-short : (v e : ℕ) → v ≤ vertexLimit → e ≤ tetrahedronLimit → length (closed (endLine v e)) ≤ 13
+unfolding endLine
+end-line-short v e hv he =
+    let dv : length (decimal v) ≤ 4 = decimal-short 3 v (omega arith) in
+    let de : length (decimal e) ≤ 4 = decimal-short 3 e (omega arith) in
+    rw (line-length (markBytes En) (decimal v ∷ decimal e ∷ [])) (simp length-append (omega arith))
+
+-- a fault's number: two digits
+fault-small : (f : Fault) → numberOf f < 100
+fault-small f = go (ltb (listed f .at) (length faults)) refl
+  where
+    go : (b : Bool) → ltb (listed f .at) (length faults) ≡ b → numberOf f < 100
+    go true h = omega (arith, listed f .next, ltb-true (listed f .at) (length faults) h)
+    go false h =
+        let e : f ≡ fault.Long = sym (listed f .same) ∙ List·getD-eq-default faults fault.Long (ltb-false (listed f .at) (length faults) h) in
+        rw e (omega arith)
+
+-- a usize: twenty digits
+pub usize-short : (k : ℕ) → k < 2 ^ 64 → length (decimal k) ≤ 20
+usize-short k h = decimal-short 19 k (omega arith)
+
+-- `NO 14` with two numbers of twenty digits and its byte 10
+pub refusal-line-short : (r : Refusal) → r .place < 2 ^ 64 → r .second < 2 ^ 64 → length (refusalLine r) ≤ 48
+unfolding refusalLine
+refusal-line-short r hp hs =
+    let dn : length (decimal (numberOf (r .fault))) ≤ 2 = decimal-short 1 (numberOf (r .fault)) (fault-small (r .fault)) in
+    rw (line-length (78 ∷ 79 ∷ []) (decimal (numberOf (r .fault)) ∷ decimal (r .place) ∷ decimal (r .second) ∷ []))
+    (simp length-append (omega (arith, usize-short (r .place) hp, usize-short (r .second) hs)))

@@ -1,0 +1,45 @@
+-- `text::write::write_end` writes EN. Assumes nothing.
+use native.Mathlib.Omega.{arith}
+use borrow.Author.Needs.{needs}
+use denote.Ref.{now}
+use Rattle.faults.specs.Refusals.{refuse}
+use Rattle.faults.specs.declared.Fault.the-variants as fault
+use Rattle.text.proofs.WrittenLaws.{end-line-short}
+use Rattle.text.proofs.WriteLaws.{refused-done, line-done, many-vertices, many-elements, few-of-both}
+use Rattle.text.proofs.write.write_end.Statement.{statement}
+use Rattle.text.proofs.write.write_end.Tie as tie
+
+refused-requires : tie.Need-refused-requires
+refused-requires c κs = search needs
+
+returns : tie.Need-returns
+returns c =
+    let s = c .before .before .before in
+    refused-done (now (s .args .buffer)) (refuse fault.Many 0) (many-vertices (s .args .vertices) (s .args .elements) _ (c .before .if1 .taken)) (c .refused .ensures)
+
+refused-requires-2 : tie.Need-refused-requires-2
+refused-requires-2 c κs = search needs
+
+returns-2 : tie.Need-returns-2
+returns-2 c =
+    let s = c .before .before .before .before in
+    refused-done (now (s .args .buffer)) (refuse fault.Many 0) (many-elements (s .args .vertices) (s .args .elements) _ (c .before .before .if1 .left) (c .before .if2 .taken)) (c .refused2 .ensures)
+
+end-line-requires : tie.Need-end-line-requires
+end-line-requires c κs = search needs
+
+store-requires : tie.Need-store-requires
+store-requires c κs = search needs
+
+same-length : tie.Need-same-length
+same-length c = search needs
+
+returns-3 : tie.Need-returns-3
+returns-3 c =
+    let s = c .before .before .before .before .before .before .before .before in
+    let v = c .before .before .before .before .before .before .if1 .left in
+    let e = c .before .before .before .before .before .if2 .left in
+    line-done (few-of-both (s .args .vertices) (s .args .elements) _ v e) (c .before .before .before .before .end-line .ensures) (omega (arith, end-line-short (s .args .vertices) (s .args .elements) v e)) (c .before .before .store .ensures)
+
+pub write-end-spec : {M : Type 1} → statement M
+write-end-spec = tie.close (tie.spec refused-requires returns refused-requires-2 returns-2 end-line-requires store-requires same-length returns-3)

@@ -1,0 +1,20 @@
+-- `text::written::coordinate_field` puts a space and a coordinate. Assumes nothing.
+use borrow.Author.Needs.{needs}
+use mir.Facts.{toZ-ofZ}
+use Rattle.text.proofs.TextLaws.{added-two}
+use Rattle.text.proofs.written.coordinate_field.Statement.{statement}
+use Rattle.text.proofs.written.coordinate_field.Tie as tie
+
+push-requires : tie.Need-push-requires
+push-requires c κs = search needs
+
+put-coordinate-requires : tie.Need-put-coordinate-requires
+put-coordinate-requires c κs = search needs
+
+returns : tie.Need-returns
+returns c =
+    let e = toZ-ofZ (c .before .before .fits .z) in
+    added-two (c .before .push .ensures) (rw e at (c .put-coordinate .ensures))
+
+pub coordinate-field-spec : {M : Type 1} → statement M
+coordinate-field-spec = tie.close (tie.spec push-requires put-coordinate-requires returns)

@@ -1,0 +1,39 @@
+-- `text::written::end_line` makes the line EN. Assumes nothing.
+use mathlib.Core.List.{List, [], _∷_}
+use Prim.Native.Nat.{ℕ}
+use borrow.Author.Needs.{needs}
+use Rattle.text.specs.Line.{markBytes}
+use Rattle.text.specs.Written.{decimal, endLine}
+use Rattle.text.specs.declared.terms.Mark.the-variants.{En}
+use Rattle.text.proofs.TextLaws.{holds-more}
+use Rattle.text.proofs.WrittenLaws.{line-start, line-field}
+use Rattle.text.proofs.written.end_line.Statement.{statement}
+use Rattle.text.proofs.written.end_line.Tie as tie
+
+empty-requires : tie.Need-empty-requires
+empty-requires c κs = search needs
+
+put-mark-requires : tie.Need-put-mark-requires
+put-mark-requires c κs = search needs
+
+number-field-requires : tie.Need-number-field-requires
+number-field-requires c κs = search needs
+
+number-field-requires-2 : tie.Need-number-field-requires-2
+number-field-requires-2 c κs = search needs
+
+push-requires : tie.Need-push-requires
+push-requires c κs = search needs
+
+returns : tie.Need-returns
+unfolding endLine
+returns c =
+    let a = c .before .before .before .before .before .args in
+    let mark : List ℕ = markBytes En in
+    let begun = line-start mark (c .before .before .before .before .empty .ensures) (c .before .before .before .put-mark .ensures) in
+    let first = line-field mark [] (decimal (a .vertices)) begun (c .before .before .number-field .ensures) in
+    let second = line-field mark (decimal (a .vertices) ∷ []) (decimal (a .elements)) first (c .before .number-field2 .ensures) in
+    holds-more second (c .push .ensures)
+
+pub end-line-spec : {M : Type 1} → statement M
+end-line-spec = tie.close (tie.spec empty-requires put-mark-requires number-field-requires number-field-requires-2 push-requires returns)

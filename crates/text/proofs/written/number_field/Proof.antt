@@ -1,0 +1,17 @@
+-- `text::written::number_field` puts a space and a number. Assumes nothing.
+use borrow.Author.Needs.{needs}
+use Rattle.text.proofs.TextLaws.{added-two}
+use Rattle.text.proofs.written.number_field.Statement.{statement}
+use Rattle.text.proofs.written.number_field.Tie as tie
+
+push-requires : tie.Need-push-requires
+push-requires c κs = search needs
+
+put-number-requires : tie.Need-put-number-requires
+put-number-requires c κs = search needs
+
+returns : tie.Need-returns
+returns c = added-two (c .before .push .ensures) (c .put-number .ensures)
+
+pub number-field-spec : {M : Type 1} → statement M
+number-field-spec = tie.close (tie.spec push-requires put-number-requires returns)
