@@ -28,7 +28,7 @@ use Rattle.solids.proofs.RelistedLaws.{among-on}
 use Rattle.solids.proofs.CycleLaws.{FaceApart, next, holds-next}
 
 -- corners of an element
-at-among : (vs : List ℕ) (p : ℕ) → T (inside (length vs) p) → T (among (at vs p) vs)
+pub at-among : (vs : List ℕ) (p : ℕ) → T (inside (length vs) p) → T (among (at vs p) vs)
 at-among vs zero h = absurd h
 at-among vs (suc i) h = go vs i (ltb→lt i (length vs) h)
   where

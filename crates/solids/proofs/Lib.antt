@@ -29,4 +29,8 @@ pub mod EvenReorderings
 pub mod ReferenceTest
 pub mod FilledLaws
 pub mod TetLaws
+pub mod SetLaws
+pub mod CyclesAlike
+pub mod FitLaws
+pub mod RelistingLaws
 pub mod Theorems

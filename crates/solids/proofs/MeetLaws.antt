@@ -48,7 +48,7 @@ Meet p q =
 pub meet-sym : (p q : Piece) → Meet p q → Meet q p
 meet-sym p q m t h a b = shared-sym (m t h b a)
 
-among-keep : (P : ℕ → Bool) (l : List ℕ) (v : ℕ) → T (among v l) → T (P v) → T (among v (keep P l))
+pub among-keep : (P : ℕ → Bool) (l : List ℕ) (v : ℕ) → T (among v l) → T (P v) → T (among v (keep P l))
 among-keep P [] v h p = absurd h
 among-keep P (w ∷ l) v h p = go (eqb v w) refl (P w) refl h (λ k. among-keep P l v k p)
   where

@@ -61,7 +61,7 @@ module _ (f : ℕ → ℕ) (inj : (p q : ℕ) → f p ≡ f q → p ≡ q) where
   among-on v [] = refl
   among-on v (w ∷ l) = ap₂ {C = Bool} (λ x y. x || y) (eqb-on f inj v w) (among-on v l)
 
-  distinct-on : (l : List ℕ) → distinct (map f l) ≡ distinct l
+  pub distinct-on : (l : List ℕ) → distinct (map f l) ≡ distinct l
   distinct-on [] = refl
   distinct-on (v ∷ l) = ap₂ {C = Bool} (λ x y. not x && y) (among-on v l) (distinct-on l)
 
@@ -70,11 +70,11 @@ getD-map g [] i h = absurd (not-suc-le-zero h)
 getD-map g (x ∷ l) zero h = refl
 getD-map g (x ∷ l) (suc i) h = getD-map g l i (le-of-suc-le-suc h)
 
-at-map : (g : ℕ → ℕ) (l : List ℕ) (p : ℕ) → T (inside (length l) p) → at (map g l) p ≡ g (at l p)
+pub at-map : (g : ℕ → ℕ) (l : List ℕ) (p : ℕ) → T (inside (length l) p) → at (map g l) p ≡ g (at l p)
 at-map g l zero h = absurd h
 at-map g l (suc i) h = getD-map g l i (ltb→lt i (length l) h)
 
-at-every : (P : ℕ → Bool) (l : List ℕ) → T (every P l) → (p : ℕ) → T (inside (length l) p) → T (P (at l p))
+pub at-every : (P : ℕ → Bool) (l : List ℕ) → T (every P l) → (p : ℕ) → T (inside (length l) p) → T (P (at l p))
 at-every P l h zero i = absurd i
 at-every P l h (suc i) k = go l h i (ltb→lt i (length l) k)
   where

@@ -10,14 +10,15 @@ use lib.IntN.{ℤ, pos}
 use lib.ListN.{length}
 use borrow.Author.Tests.{eq-eqb, eqb-true}
 use Rattle.laws.specs.Words.{every}
-use Rattle.solids.specs.Solids.{Place, Vertex, Solid, tetrahedron, pyramid, prism, hexahedron, Tet, Element, element, faces}
+use Rattle.solids.specs.Solids.{Place, Vertex, Solid, tetrahedron, pyramid, prism, hexahedron, Tet, Element, element, corners, faces}
 use Rattle.solids.specs.Rotations.{isRotation, relisted, rotations}
 use Rattle.solids.specs.Cut.{through, howMany, cut, cutMesh}
 use Rattle.solids.specs.Reference.{volumeOn, positive, counterclockwise, addUp, Filled}
 use Rattle.solids.specs.Rows.{rowPlaces, rowTets, cutByRow}
 use Rattle.solids.specs.Samples.{Sample, samples}
-use Rattle.solids.specs.Fit.{proper, fitting}
+use Rattle.solids.specs.Fit.{proper, fits, fitting}
 use Rattle.solids.specs.Surface.{Plain, Piece, byRule, Closed, Agreeing, wholes, SurfaceOf, SurfaceCut}
+use Rattle.solids.specs.Listings.{Relisting}
 use Rattle.laws.proofs.TestLaws.{and-left, and-right, at-below}
 use Rattle.solids.proofs.ShapeLaws.{from-proper}
 use Rattle.solids.proofs.SampleLaws as SampleLaws
@@ -29,6 +30,7 @@ use Rattle.solids.proofs.FilledLaws as FilledLaws
 use Rattle.solids.proofs.RotationList as RotationList
 use Rattle.solids.proofs.RotationsComplete as RotationsComplete
 use Rattle.solids.proofs.RelistedLaws as RelistedLaws
+use Rattle.solids.proofs.RelistingLaws as RelistingLaws
 use Rattle.solids.proofs.MeshLaws as MeshLaws
 use Rattle.solids.proofs.RuleLaws as RuleLaws
 
@@ -110,6 +112,30 @@ rotations-all = RotationsComplete.complete
 pub cut-relisted : (s : Solid) (vs : List Vertex) → T (proper (element s vs)) → (ρ : List Place) → T (isRotation s ρ)
     → cut (relisted ρ (element s vs)) ≡ cut (element s vs)
 cut-relisted s vs h ρ r = RelistedLaws.rotate s vs (from-proper s vs h) ρ (RotationsComplete.complete s ρ r)
+
+-- it is proper exactly if it was, for an element with as many corners as its solid has
+pub proper-relisted : (s : Solid) (vs : List Vertex) → length vs ≡ corners s → (ρ : List Place) → T (isRotation s ρ)
+    → proper (relisted ρ (element s vs)) ≡ proper (element s vs)
+proper-relisted = RelistingLaws.proper-relisted
+
+-- and it fits exactly what the element fitted, whichever of the two comes first
+pub fits-relisted : (s : Solid) (vs : List Vertex) → T (proper (element s vs)) → (ρ : List Place) → T (isRotation s ρ) → (x : Element)
+    → fits (relisted ρ (element s vs)) x ≡ fits (element s vs) x
+fits-relisted = RelistingLaws.fits-relisted
+
+pub relisted-fits : (s : Solid) (vs : List Vertex) → T (proper (element s vs)) → (ρ : List Place) → T (isRotation s ρ) → (x : Element) → T (proper x)
+    → fits x (relisted ρ (element s vs)) ≡ fits x (element s vs)
+relisted-fits = RelistingLaws.relisted-fits
+
+-- a mesh in which any elements are relisted by rotations is proper and fits exactly if it did, and its cut is identical
+pub relisting-proper : {es xs : List Element} → Relisting es xs → every proper xs ≡ every proper es
+relisting-proper = RelistingLaws.relisting-proper
+
+pub relisting-fitting : {es xs : List Element} → Relisting es xs → T (every proper es) → fitting xs ≡ fitting es
+relisting-fitting = RelistingLaws.relisting-fitting
+
+pub relisting-cut : {es xs : List Element} → Relisting es xs → T (every proper es) → cutMesh xs ≡ cutMesh es
+relisting-cut = RelistingLaws.relisting-cut
 
 -- ---- the surface
 
