@@ -19,7 +19,6 @@ pub mod MeetLaws
 pub mod PairLaws
 pub mod MeshLaws
 pub mod RuleLaws
-pub mod OrderLaws
 pub mod DiagonalLaws
 pub mod HalfLaws
 pub mod RotationWords
@@ -33,4 +32,5 @@ pub mod SetLaws
 pub mod CyclesAlike
 pub mod FitLaws
 pub mod RelistingLaws
+pub mod ReorderingLaws
 pub mod Theorems

@@ -9,7 +9,7 @@ use lib.Dec.{T, eqb, eqb→eq}
 use lib.IntN.{ℤ, pos}
 use lib.ListN.{length}
 use borrow.Author.Tests.{eq-eqb, eqb-true}
-use Rattle.laws.specs.Words.{every}
+use Rattle.laws.specs.Words.{every, gather}
 use Rattle.solids.specs.Solids.{Place, Vertex, Solid, tetrahedron, pyramid, prism, hexahedron, Tet, Element, element, corners, faces}
 use Rattle.solids.specs.Rotations.{isRotation, relisted, rotations}
 use Rattle.solids.specs.Cut.{through, howMany, cut, cutMesh}
@@ -18,7 +18,7 @@ use Rattle.solids.specs.Rows.{rowPlaces, rowTets, cutByRow}
 use Rattle.solids.specs.Samples.{Sample, samples}
 use Rattle.solids.specs.Fit.{proper, fits, fitting}
 use Rattle.solids.specs.Surface.{Plain, Piece, byRule, Closed, Agreeing, wholes, SurfaceOf, SurfaceCut}
-use Rattle.solids.specs.Listings.{Relisting}
+use Rattle.solids.specs.Listings.{Relisting, isOrder, picked}
 use Rattle.laws.proofs.TestLaws.{and-left, and-right, at-below}
 use Rattle.solids.proofs.ShapeLaws.{from-proper}
 use Rattle.solids.proofs.SampleLaws as SampleLaws
@@ -31,6 +31,8 @@ use Rattle.solids.proofs.RotationList as RotationList
 use Rattle.solids.proofs.RotationsComplete as RotationsComplete
 use Rattle.solids.proofs.RelistedLaws as RelistedLaws
 use Rattle.solids.proofs.RelistingLaws as RelistingLaws
+use Rattle.solids.proofs.FitLaws as FitLaws
+use Rattle.solids.proofs.ReorderingLaws as ReorderingLaws
 use Rattle.solids.proofs.MeshLaws as MeshLaws
 use Rattle.solids.proofs.RuleLaws as RuleLaws
 
@@ -136,6 +138,27 @@ relisting-fitting = RelistingLaws.relisting-fitting
 
 pub relisting-cut : {es xs : List Element} → Relisting es xs → T (every proper es) → cutMesh xs ≡ cutMesh es
 relisting-cut = RelistingLaws.relisting-cut
+
+-- ---- the order of the elements
+
+-- which of two elements comes first does not matter to whether they fit
+pub fits-sym : (e x : Element) → T (proper e) → T (proper x) → fits e x ≡ fits x e
+fits-sym = FitLaws.fits-sym
+
+-- for every reordering of the elements, the mesh is proper and fits exactly if it did, and its cut is the same blocks in the new order
+pub reordered-proper : (d : Element) (es : List Element) (σ : List ℕ) → T (isOrder (length es) σ) → every proper (picked d σ es) ≡ every proper es
+reordered-proper = ReorderingLaws.reordered-proper
+
+pub reordered-fitting : (d : Element) (es : List Element) (σ : List ℕ) → T (isOrder (length es) σ) → T (every proper es) → fitting (picked d σ es) ≡ fitting es
+reordered-fitting = ReorderingLaws.reordered-fitting
+
+pub reordered-cut : (d : Element) (es : List Element) (σ : List ℕ) → T (isOrder (length es) σ)
+    → cutMesh (picked d σ es) ≡ gather (λ b. b) (picked [] σ (map cut es))
+reordered-cut = ReorderingLaws.reordered-cut
+
+-- where the cut is these blocks, one after the other
+pub blocks-joined : (es : List Element) → cutMesh es ≡ gather (λ b. b) (map cut es)
+blocks-joined = ReorderingLaws.blocks-joined
 
 -- ---- the surface
 
