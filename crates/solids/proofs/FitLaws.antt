@@ -73,7 +73,7 @@ edge-moved l l′ e s r h =
 
 -- ---- the test, part by part
 
-fits-parts : (e x : Element) → T (fits e x) → T (leb (length (common e x)) 1) ⊎ (T (hasEdge (common e x) e && hasEdge (common e x) x) ⊎ T (shareFace (common e x) e x))
+pub fits-parts : (e x : Element) → T (fits e x) → T (leb (length (common e x)) 1) ⊎ (T (hasEdge (common e x) e && hasEdge (common e x) x) ⊎ T (shareFace (common e x) e x))
 unfolding fits
 fits-parts e x h =
     go (or-cases (leb (length (common e x)) 1) ((hasEdge (common e x) e && hasEdge (common e x) x) || shareFace (common e x) e x) h)

@@ -33,4 +33,8 @@ pub mod CyclesAlike
 pub mod FitLaws
 pub mod RelistingLaws
 pub mod ReorderingLaws
+pub mod StaysOne
+pub mod LoneLaws
+pub mod CutOfCut
+pub mod NeighbourLaws
 pub mod Theorems

@@ -9,17 +9,18 @@ use lib.Dec.{T, eqb, eqb→eq}
 use lib.IntN.{ℤ, pos}
 use lib.ListN.{length}
 use borrow.Author.Tests.{eq-eqb, eqb-true}
-use Rattle.laws.specs.Words.{every, gather}
-use Rattle.solids.specs.Solids.{Place, Vertex, Solid, tetrahedron, pyramid, prism, hexahedron, Tet, Element, element, corners, faces}
+use Rattle.laws.specs.Words.{count, every, gather, among, distinct}
+use Rattle.solids.specs.Solids.{Place, Vertex, Solid, tetrahedron, pyramid, prism, hexahedron, Face, Tet, tet, Element, element, corners, faces, ofFace, ofTet, cornersOf, facesOf}
 use Rattle.solids.specs.Rotations.{isRotation, relisted, rotations}
-use Rattle.solids.specs.Cut.{through, howMany, cut, cutMesh}
+use Rattle.solids.specs.Cut.{through, howMany, written, cut, cutMesh}
 use Rattle.solids.specs.Reference.{volumeOn, positive, counterclockwise, addUp, Filled}
 use Rattle.solids.specs.Rows.{rowPlaces, rowTets, cutByRow}
 use Rattle.solids.specs.Samples.{Sample, samples}
-use Rattle.solids.specs.Fit.{proper, fits, fitting}
-use Rattle.solids.specs.Surface.{Plain, Piece, byRule, Closed, Agreeing, wholes, SurfaceOf, SurfaceCut}
-use Rattle.solids.specs.Listings.{Relisting, isOrder, picked}
+use Rattle.solids.specs.Fit.{proper, sameSet, fits, fitting}
+use Rattle.solids.specs.Surface.{Plain, Piece, byRule, Closed, Agreeing, wholes, SurfaceOf, SurfaceCut, CutAlike}
+use Rattle.solids.specs.Listings.{Relisting, isOrder, picked, asElement}
 use Rattle.laws.proofs.TestLaws.{and-left, and-right, at-below}
+use Rattle.laws.proofs.EveryLaws.{every-at}
 use Rattle.solids.proofs.ShapeLaws.{from-proper}
 use Rattle.solids.proofs.SampleLaws as SampleLaws
 use Rattle.solids.proofs.RowLaws as RowLaws
@@ -35,6 +36,10 @@ use Rattle.solids.proofs.FitLaws as FitLaws
 use Rattle.solids.proofs.ReorderingLaws as ReorderingLaws
 use Rattle.solids.proofs.MeshLaws as MeshLaws
 use Rattle.solids.proofs.RuleLaws as RuleLaws
+use Rattle.solids.proofs.NeighbourLaws as NeighbourLaws
+use Rattle.solids.proofs.StaysOne as StaysOne
+use Rattle.solids.proofs.LoneLaws as LoneLaws
+use Rattle.solids.proofs.CutOfCut as CutOfCut
 
 -- ---- the cut
 
@@ -174,3 +179,39 @@ surface-of = MeshLaws.surface-of
 -- every mesh of proper elements that fit: the surface of the cut is the cut of the surface
 pub surface-cut : (es : List Element) → T (every proper es) → T (fitting es) → SurfaceCut es
 surface-cut = RuleLaws.surface-cut
+
+-- two elements that fit and have the vertices of a face in common: it is a face of both, read backwards in the other, and they cut it into the same
+-- triangles, run round in opposite directions
+pub cut-alike : (e x : Element) → T (proper e) → T (proper x) → T (fits e x) → (F G : Face Vertex) → List·Memᴰ F (facesOf e) → List·Memᴰ G (facesOf x)
+    → T (sameSet (ofFace F) (ofFace G)) → CutAlike F G
+cut-alike = NeighbourLaws.cut-alike
+
+-- no tetrahedron of the cut uses a vertex that its element has not
+pub own-vertices : (e : Element) → T (proper e) → (t : Tet Vertex) → List·Memᴰ t (cut e) → T (every (λ v. among v (cornersOf e)) (ofTet t))
+own-vertices e h t m = every-at (λ u. every (λ v. among v (cornersOf e)) (ofTet u)) (cut e) (plain e h .own) t m
+
+-- and each tetrahedron of the cut mesh is one of the cut of an element
+pub cut-of : (es : List Element) (t : Tet Vertex) → List·Memᴰ t (cutMesh es) → (e : Element) × List·Memᴰ e es × List·Memᴰ t (cut e)
+cut-of = CutOfCut.cut-of
+
+-- The cut reads no coordinate: `cut` and `cutMesh` take elements, which are solids and vertex numbers, so two vertex tables give one cut by type.
+
+-- ---- the cut of a cut
+
+-- a tetrahedron stays one: itself, as it is written
+pub stays-one : (t : Tet Vertex) → T (distinct (ofTet t)) → cut (asElement t) ≡ written t ∷ []
+stays-one (tet a b c d) h = StaysOne.stays-one a b c d (StaysOne.distinct-apart a b c d h)
+
+-- no two tetrahedra of the cut mesh have the same four vertices
+pub vertices-differ : (es : List Element) → T (every proper es) → T (fitting es) → (t : Tet Vertex) → count (λ u. sameSet (ofTet t) (ofTet u)) (cutMesh es) ≤ 1
+vertices-differ es h f t = LoneLaws.lone-mesh (ofTet t) es h f
+
+-- the tetrahedra of the cut, given as elements, are proper, fit, and are cut to themselves
+pub again-proper : (es : List Element) → T (every proper es) → T (every proper (map asElement (cutMesh es)))
+again-proper = CutOfCut.cut-proper
+
+pub again-fitting : (es : List Element) → T (every proper es) → T (fitting es) → T (fitting (map asElement (cutMesh es)))
+again-fitting = CutOfCut.cut-fitting
+
+pub again-cut : (es : List Element) → T (every proper es) → cutMesh (map asElement (cutMesh es)) ≡ cutMesh es
+again-cut = CutOfCut.cut-again
