@@ -1,33 +1,32 @@
 -- The cut of a cut: the tetrahedra of a cut, given as elements, are proper, fit, and are cut to themselves.
 -- Assumes nothing.
-use mathlib.Core.Path.{_≡_, refl, sym, _∙_, ap, ap₂, subst}
-use mathlib.Core.Bool.{Bool, true, false, cond, not, _&&_, _||_}
-use mathlib.Core.List.{List, [], _∷_, _++_, map, List·Memᴰ, List·Memᴰ·head, List·Memᴰ·tail, List·Memᴰ·cases-cons, List·Memᴰ·not-nil, List·Memᴰ·append-cases, Memᴰ·map}
-use mathlib.Core.Logic.{_⊎_, inl, inr, _≢_}
-use Prim.Native.Nat.{ℕ, zero, suc, _+_, _≤_, _<_}
-use native.Mathlib.Nat.{le-trans}
+use mathlib.Core.Path.{_≡_, refl, sym, _∙_, ap, subst}
+use mathlib.Core.Bool.{Bool, true, false, cond}
+use mathlib.Core.List.{List, [], _∷_, _++_, map, List·Memᴰ, List·Memᴰ·head, List·Memᴰ·tail, List·Memᴰ·not-nil, List·Memᴰ·append-cases, Memᴰ·map}
+use mathlib.Core.Logic.{_⊎_, inl, inr}
+use Prim.Native.Nat.{ℕ, _+_, _≤_}
 use native.Mathlib.Omega.{arith}
-use lib.Dec.{eqb, leb, T, le→leb}
+use lib.Dec.{T, le→leb}
 use lib.ListN.{length}
 use Rattle.laws.specs.Words.{count, every, among, distinct, gather, keep}
-use Rattle.laws.proofs.TestLaws.{and-left, and-right, and-both, T-true, true-T}
+use Rattle.laws.proofs.TestLaws.{and-left, and-right, and-both, T-true}
 use Rattle.laws.proofs.EveryLaws.{every-at, count-append}
-use Rattle.solids.specs.Solids.{tetrahedron, Face, three, four, Tri, tri, Tet, tet, Element, element, ofFace, ofTri, ofTet, facesOf}
-use Rattle.solids.specs.Cut.{written, cut, cutMesh}
+use Rattle.solids.specs.Solids.{Face, three, Tri, tri, Tet, tet, Element, ofFace, ofTri, ofTet, facesOf}
+use Rattle.solids.specs.Cut.{cut, cutMesh}
 use Rattle.solids.specs.Fit.{proper, common, sameSet, hasEdge, backFace, fits, fitting}
-use Rattle.solids.specs.Surface.{sides, back, sameTri, times, owners, SurfaceCut}
+use Rattle.solids.specs.Surface.{sides, back, sameTri, owners}
 use Rattle.solids.specs.Listings.{asElement}
 use Rattle.solids.proofs.WrittenLaws.{Apart}
 use Rattle.solids.proofs.SideLaws.{Same, s0, s1, s2, same-test}
 use Rattle.solids.proofs.CycleLaws.{Cycle, c0, c1, c2}
-use Rattle.solids.proofs.FaceFacts.{TriApart, Apart₃, eqb-self, or-true}
+use Rattle.solids.proofs.FaceFacts.{Apart₃, eqb-self, or-true}
 use Rattle.solids.proofs.PairLaws.{count-mem}
 use Rattle.solids.proofs.RuleLaws.{surface-cut}
 use Rattle.solids.proofs.TetLaws.{plain}
 use Rattle.solids.proofs.SetLaws.{Sub, among-first, among-later, among-cases, same-set, set-there, set-back, same-length}
-use Rattle.solids.proofs.FitLaws.{common-distinct, common-swap, common-mine, common-theirs, edge-moved, set-moved, fits-few, fits-edge, fits-face}
+use Rattle.solids.proofs.FitLaws.{common-distinct, common-swap, edge-moved, fits-few, fits-edge, fits-face}
 use Rattle.solids.proofs.StaysOne.{distinct-apart, cut-written, cut-self}
-use Rattle.solids.proofs.LoneLaws.{mem-gather, owned-side, lone-mesh}
+use Rattle.solids.proofs.LoneLaws.{set-refl, mem-gather, lone-mesh}
 
 -- ---- which corners of a tetrahedron are kept: one at most, the ends of an edge, those of a side, or all
 
@@ -220,7 +219,7 @@ tets-fitting (t ∷ ts) d o c =
             let k = c (ofTet t) in
             let i = count-mem (λ w. sameSet (ofTet t) (ofTet w)) ts u m s in
             let j : count (λ w. sameSet (ofTet t) (ofTet w)) (t ∷ ts) ≡ 1 + count (λ w. sameSet (ofTet t) (ofTet w)) ts
-            = ap {B = ℕ} (λ b. cond b 1 0 + count (λ w. sameSet (ofTet t) (ofTet w)) ts) (T-true (sameSet (ofTet t) (ofTet t)) (same-set (ofTet t) (ofTet t) (λ v y. y) (λ v y. y))) in
+            = ap {B = ℕ} (λ b. cond b 1 0 + count (λ w. sameSet (ofTet t) (ofTet w)) ts) (T-true (sameSet (ofTet t) (ofTet t)) (set-refl (ofTet t))) in
             omega arith
 
         apart : (x y : Tri ℕ) → List·Memᴰ x (sides t) → List·Memᴰ y (sides u) → Same x y → ⊥

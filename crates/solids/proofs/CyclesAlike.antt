@@ -2,8 +2,7 @@
 -- keeps corners and edges.
 -- Assumes nothing.
 use mathlib.Core.Path.{_≡_, refl, sym, _∙_, ap, subst}
-use mathlib.Core.Bool.{Bool, true, false, _&&_, _||_}
-use mathlib.Core.List.{List, [], _∷_}
+use mathlib.Core.Bool.{Bool, _&&_, _||_}
 use Prim.Native.Nat.{ℕ}
 use lib.Dec.{eqb, T, eqb-refl}
 use Rattle.laws.specs.Words.{some}
@@ -11,7 +10,7 @@ use Rattle.laws.proofs.TestLaws.{and-both, or-left, or-right}
 use Rattle.solids.specs.Solids.{Face, three, four, Edge, edge, onFace, edgesOf}
 use Rattle.solids.specs.Rotations.{eqFace, sameFace}
 use Rattle.solids.specs.Fit.{backFace}
-use Rattle.solids.proofs.CycleLaws.{Cycle, c0, c1, c2, c3, next, test-cycle, or-turn₃, or-turn₄}
+use Rattle.solids.proofs.CycleLaws.{Cycle, c0, c1, c2, c3, next, or-turn₃, or-turn₄}
 
 -- one corner further
 step : (F : Face ℕ) {G : Face ℕ} → Cycle F G → Cycle F (next G)

@@ -1,6 +1,6 @@
 -- Whether two elements fit asks only for their corners as sets and their faces as cycles, and it does not matter which of the two comes first.
 -- Assumes nothing.
-use mathlib.Core.Path.{_≡_, refl, sym, _∙_, ap, ap₂, subst}
+use mathlib.Core.Path.{_≡_, refl, sym, _∙_, ap, subst}
 use mathlib.Core.Bool.{Bool, true, false, _&&_, _||_}
 use mathlib.Core.List.{List, [], _∷_, _++_, map, List·Memᴰ, List·Memᴰ·cases-cons, List·Memᴰ·not-nil}
 use mathlib.Core.Logic.{_⊎_, inl, inr}
@@ -8,7 +8,7 @@ use Prim.Native.Nat.{ℕ}
 use lib.Dec.{leb, T}
 use lib.ListN.{length}
 use Rattle.laws.specs.Words.{some, among, distinct, gather}
-use Rattle.laws.proofs.TestLaws.{and-left, and-right, and-both, or-cases, or-left, or-right, T-true, true-T}
+use Rattle.laws.proofs.TestLaws.{and-left, and-right, and-both, or-cases, or-left, or-right}
 use Rattle.laws.proofs.EveryLaws.{some-at}
 use Rattle.solids.specs.Solids.{tetrahedron, hexahedron, Face, Edge, Element, element, ofFace, ends, edgesOf, holds, cornersOf, facesOf}
 use Rattle.solids.specs.Rotations.{sameFace}

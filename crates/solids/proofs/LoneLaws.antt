@@ -2,33 +2,32 @@
 -- face, whose two triangles are too few for the sides of a tetrahedron.
 -- Assumes nothing.
 use mathlib.Core.Path.{_≡_, refl, sym, _∙_, ap, ap₂, subst}
-use mathlib.Core.Bool.{Bool, true, false, cond, not, _&&_, _||_}
+use mathlib.Core.Bool.{Bool, true, false, cond, not, _&&_}
 use mathlib.Core.List.{List, [], _∷_, _++_, map, List·Memᴰ, List·Memᴰ·head, List·Memᴰ·tail, List·Memᴰ·cases-cons, List·Memᴰ·not-nil, Memᴰ·append-left, Memᴰ·append-right, Memᴰ·of-map}
 use mathlib.Core.Logic.{_⊎_, inl, inr, _≢_}
-use Prim.Native.Nat.{ℕ, zero, suc, _+_, _≤_, _<_, zero-le}
-use native.Mathlib.Nat.{le-trans}
+use Prim.Native.Nat.{ℕ, zero, suc, _+_, _≤_}
 use native.Mathlib.Omega.{arith}
 use lib.Dec.{eqb, T, eqb→eq}
 use lib.ListN.{length}
-use Rattle.laws.specs.Words.{count, every, among, distinct, gather, lowest}
-use Rattle.laws.proofs.TestLaws.{and-left, and-right, and-both, T-true, true-T}
+use borrow.Author.Tests.{ne-eqb}
+use Rattle.laws.specs.Words.{count, every, among, distinct, gather}
+use Rattle.laws.proofs.TestLaws.{and-left, and-right, and-both, true-T}
 use Rattle.laws.proofs.EveryLaws.{every-at, count-append, count-cong, among-every}
-use Rattle.solids.specs.Solids.{Solid, tetrahedron, pyramid, prism, hexahedron, Face, three, four, Tri, tri, Tet, tet, Element, element, onTet, ofFace, ofTri, ofTet, holds, cornersOf, facesOf}
-use Rattle.solids.specs.Cut.{lowestFirst, halves, cutFace, firstLowest, secondLowest, written, upTo, insert, ascending, inOrder, first, cut, cutMesh}
+use Rattle.solids.specs.Solids.{Solid, tetrahedron, pyramid, prism, hexahedron, Face, three, four, Tri, tri, Tet, tet, Element, element, onTet, ofFace, ofTri, ofTet, holds, cornersOf}
+use Rattle.solids.specs.Cut.{lowestFirst, halves, cutFace, written, upTo, insert, inOrder, first, cut, cutMesh}
 use Rattle.solids.specs.Fit.{proper, sameSet, fits, fitting}
-use Rattle.solids.specs.Surface.{sides, sameTri, times, owners, within, byRule, Plain, Closed}
-use Rattle.solids.proofs.WrittenLaws.{Apart, either}
+use Rattle.solids.specs.Surface.{sides, sameTri, times, owners, within, byRule, Closed}
+use Rattle.solids.proofs.WrittenLaws.{Apart}
 use Rattle.solids.proofs.NumberingLaws.{number, number-inj}
 use Rattle.solids.proofs.ShapeLaws.{shape, Proper, from-proper}
 use Rattle.solids.proofs.HalfLaws.{allHalves, ways-of, cut-half, at-half}
-use Rattle.solids.proofs.SideLaws.{Same, s0, s1, s2, same-sym, same-trans, same-test, test-same, bool-iff}
-use Rattle.solids.proofs.FaceFacts.{TriApart, Apart₃, all-among, eqb-self, or-true}
-use Rattle.solids.proofs.MeetLaws.{Shared, Meet, fits-meet}
+use Rattle.solids.proofs.SideLaws.{Same, s0, same-sym, same-trans, same-test, test-same, bool-iff}
+use Rattle.solids.proofs.FaceFacts.{all-among, every-same, eqb-self, or-true}
+use Rattle.solids.proofs.MeetLaws.{Shared, fits-meet}
 use Rattle.solids.proofs.PairLaws.{count-mem, count-some}
 use Rattle.solids.proofs.RuleLaws.{rule-closed, rule-agree}
 use Rattle.solids.proofs.TetLaws.{plain}
-use Rattle.solids.proofs.SetLaws.{Sub, among-first, among-later, same-set, set-there, set-back, every-sub}
-use Rattle.solids.proofs.FitLaws.{set-moved}
+use Rattle.solids.proofs.SetLaws.{among-first, among-later, same-set, set-there, set-back}
 use Rattle.solids.proofs.EvenReorderings.{written-even-too}
 use Rattle.solids.proofs.StaysOne.{distinct-apart}
 
@@ -52,9 +51,6 @@ set-cong l l′ m m′ p q =
 
 pub set-refl : (l : List ℕ) → T (sameSet l l)
 set-refl l = same-set l l (λ v k. k) (λ v k. k)
-
-pub set-sym : (l m : List ℕ) → T (sameSet l m) → T (sameSet m l)
-set-sym l m h = same-set m l (set-back l m h) (set-there l m h)
 
 -- to write a tetrahedron keeps its vertices
 written-set : (t : Tet ℕ) → T (sameSet (ofTet (written t)) (ofTet t))
@@ -116,40 +112,24 @@ lone-cut s vs h l =
 
 -- ---- in two elements: three sides of a tetrahedron are not among two triangles
 
+-- a triangle that has the corner v is not one that has it not
+not-same : (v p q r : ℕ) → v ≢ p → v ≢ q → v ≢ r → (t u : Tri ℕ) → T (among v (ofTri u)) → Same (tri p q r) t → Same u t → ⊥
+not-same v p q r x y z t u m s k =
+    let free : T (every (λ w. not (eqb v w)) (p ∷ q ∷ r ∷ [])) = simp (ne-eqb v p x, ne-eqb v q y, ne-eqb v r z) tt in
+    let all : T (every (λ w. not (eqb v w)) (ofTri u)) = subst T (every-same (λ w. not (eqb v w)) (same-trans s (same-sym k))) free in
+    let none : T (not (eqb v v)) = among-every (λ w. not (eqb v w)) (ofTri u) all v m in
+    subst T (ap not (eqb-self v)) none
+
 module _ (a b c d : ℕ) (h : Apart a b c d) where
-  first-second : (t : Tri ℕ) → Same (tri b c d) t → Same (tri a d c) t → ⊥
-  first-second t p q = go (same-trans p (same-sym q))
-    where
-      go : Same (tri b c d) (tri a d c) → ⊥
-      go (s0 e) = h .ab (cc)
-      go (s1 e) = h .ac (cc)
-      go (s2 e) = h .ad (cc)
-
-  first-third : (t : Tri ℕ) → Same (tri b c d) t → Same (tri a b d) t → ⊥
-  first-third t p q = go (same-trans p (same-sym q))
-    where
-      go : Same (tri b c d) (tri a b d) → ⊥
-      go (s0 e) = h .ab (cc)
-      go (s1 e) = h .ac (cc)
-      go (s2 e) = h .ad (cc)
-
-  second-third : (t : Tri ℕ) → Same (tri a d c) t → Same (tri a b d) t → ⊥
-  second-third t p q = go (same-trans p (same-sym q))
-    where
-      go : Same (tri a d c) (tri a b d) → ⊥
-      go (s0 e) = h .bd (cc)
-      go (s1 e) = h .bc (cc)
-      go (s2 e) = h .ab (cc)
-
   -- so each triangle is one of the three at most
   one-side : (t : Tri ℕ) → cond (sameTri (tri b c d) t) 1 0 + (cond (sameTri (tri a d c) t) 1 0 + cond (sameTri (tri a b d) t) 1 0) ≤ 1
   one-side t = go (sameTri (tri b c d) t) refl (sameTri (tri a d c) t) refl (sameTri (tri a b d) t) refl
     where
       go : (x : Bool) → sameTri (tri b c d) t ≡ x → (y : Bool) → sameTri (tri a d c) t ≡ y → (z : Bool) → sameTri (tri a b d) t ≡ z → cond x 1 0 + (cond y 1 0 + cond z 1 0) ≤ 1
-      go true p true q z r = absurd (first-second t (test-same (tri b c d) t (true-T p)) (test-same (tri a d c) t (true-T q)))
-      go true p false q true r = absurd (first-third t (test-same (tri b c d) t (true-T p)) (test-same (tri a b d) t (true-T r)))
+      go true p true q z r = absurd (not-same a b c d (h .ab) (h .ac) (h .ad) t (tri a d c) (among-first a (d ∷ c ∷ [])) (test-same (tri b c d) t (true-T p)) (test-same (tri a d c) t (true-T q)))
+      go true p false q true r = absurd (not-same a b c d (h .ab) (h .ac) (h .ad) t (tri a b d) (among-first a (b ∷ d ∷ [])) (test-same (tri b c d) t (true-T p)) (test-same (tri a b d) t (true-T r)))
       go true p false q false r = omega arith
-      go false p true q true r = absurd (second-third t (test-same (tri a d c) t (true-T q)) (test-same (tri a b d) t (true-T r)))
+      go false p true q true r = absurd (not-same b a d c (λ e. h .ab (sym e)) (h .bd) (h .bc) t (tri a b d) (among-later b a (b ∷ d ∷ []) (among-first b (d ∷ []))) (test-same (tri a d c) t (true-T q)) (test-same (tri a b d) t (true-T r)))
       go false p true q false r = omega arith
       go false p false q true r = omega arith
       go false p false q false r = omega arith

@@ -1,33 +1,32 @@
 -- Elements relisted by rotations: they are proper, fit and are cut as before.
 -- Assumes nothing.
 use mathlib.Core.Path.{_≡_, refl, sym, _∙_, ap, ap₂, subst}
-use mathlib.Core.Bool.{Bool, true, false, not, _&&_, _||_}
+use mathlib.Core.Bool.{Bool, _&&_}
 use mathlib.Core.List.{List, [], _∷_, _++_, map, List·Memᴰ, Memᴰ·of-map, Memᴰ·map}
 use mathlib.Core.Logic.{_⊎_, inl, inr}
-use Prim.Native.Nat.{ℕ, zero, suc, _≤_, _<_}
+use Prim.Native.Nat.{ℕ, zero, suc}
 use native.Mathlib.Omega.{arith}
-use lib.Dec.{eqb, ltb, T, eqb→eq, lt→ltb}
-use lib.ListN.{length, length-map, getD}
+use lib.Dec.{eqb, T, lt→ltb}
+use lib.ListN.{length}
 use borrow.Author.Tests.{eq-eqb}
 use Rattle.laws.specs.Words.{every, some, among, distinct}
-use Rattle.laws.proofs.TestLaws.{and-left, and-right, and-both, or-left, or-right, true-T, below}
-use Rattle.laws.proofs.EveryLaws.{every-at, some-at, among-every, map-agree}
-use Rattle.solids.specs.Solids.{Solid, tetrahedron, pyramid, prism, hexahedron, Face, three, four, Tet, Element, element, corners, faces, at, onFace, ofFace, cornersOf, facesOf}
+use Rattle.laws.proofs.TestLaws.{and-left, and-right, and-both, true-T}
+use Rattle.laws.proofs.EveryLaws.{every-at, some-at, among-every}
+use Rattle.solids.specs.Solids.{Solid, tetrahedron, pyramid, prism, hexahedron, Face, three, four, Tet, Element, element, corners, faces, at, onFace, ofFace, facesOf}
 use Rattle.solids.specs.Rotations.{sameFace, isReordering, keepsFaces, isRotation, rotations, relisted}
 use Rattle.solids.specs.Cut.{placeOf, cut, cutMesh}
-use Rattle.solids.specs.Reference.{solidIn}
 use Rattle.solids.specs.Fit.{proper, fits, fitting}
 use Rattle.solids.specs.Listings.{Relists, as-it-was, by-rotation, Relisting, none, next}
-use Rattle.solids.proofs.NumberingLaws.{number, number-inj, inside, at-place, at-suc, inside-suc, placeOf-at}
+use Rattle.solids.proofs.NumberingLaws.{number-inj, inside, at-suc, inside-suc, placeOf-at}
 use Rattle.solids.proofs.ShapeLaws.{Proper, from-proper, faces-inside, at-f}
 use Rattle.solids.proofs.SideLaws.{bool-iff}
 use Rattle.solids.proofs.RotationTest.{listOk}
-use Rattle.solids.proofs.RelistedLaws.{face-agree, distinct-on, at-map, at-every, rotate}
+use Rattle.solids.proofs.RelistedLaws.{face-agree, at-map, AllPlaces, all-places, listed-proper, rotate}
 use Rattle.solids.proofs.RotationsComplete.{complete}
 use Rattle.solids.proofs.CycleLaws.{Cycle, c0, test-cycle}
 use Rattle.solids.proofs.CyclesAlike.{cycle-sym, cycle-on}
 use Rattle.solids.proofs.FaceFacts.{at-among}
-use Rattle.solids.proofs.SetLaws.{Sub, among-first, among-later, among-cases, not-in, distinct-both}
+use Rattle.solids.proofs.SetLaws.{Sub, among-first, among-later, among-cases, distinct-both}
 use Rattle.solids.proofs.FitLaws.{Alike, alike-fits}
 
 -- ---- on places, computed: each rotation is a list of all places, and each face comes from one
@@ -89,29 +88,11 @@ module _ (s : Solid) (vs : List ℕ) (many : length vs ≡ corners s) (ρ : List
   ok : T (rotationOk s ρ)
   ok = every-at (rotationOk s) (rotations s) (rotations-ok s) ρ (complete s ρ r)
 
-  list-ok : T (listOk s ρ)
-  list-ok = and-left (listOk s ρ) (ontoFaces s ρ) ok
-
-  long : length ρ ≡ corners s
-  long = eqb→eq (length ρ) (corners s) (and-left (eqb (length ρ) (corners s)) (every (inside (corners s)) ρ && (distinct ρ && below (corners s) (λ i. among (suc i) ρ))) list-ok)
-
-  rest₁ : T (every (inside (corners s)) ρ && (distinct ρ && below (corners s) (λ i. among (suc i) ρ)))
-  rest₁ = and-right (eqb (length ρ) (corners s)) (every (inside (corners s)) ρ && (distinct ρ && below (corners s) (λ i. among (suc i) ρ))) list-ok
-
-  ρ-inside : T (every (inside (corners s)) ρ)
-  ρ-inside = and-left (every (inside (corners s)) ρ) (distinct ρ && below (corners s) (λ i. among (suc i) ρ)) rest₁
-
-  rest₂ : T (distinct ρ && below (corners s) (λ i. among (suc i) ρ))
-  rest₂ = and-right (every (inside (corners s)) ρ) (distinct ρ && below (corners s) (λ i. among (suc i) ρ)) rest₁
-
-  ρ-distinct : T (distinct ρ)
-  ρ-distinct = and-left (distinct ρ) (below (corners s) (λ i. among (suc i) ρ)) rest₂
-
-  ρ-all : (p : ℕ) → T (inside (corners s) p) → T (among p ρ)
-  ρ-all = at-place (corners s) (λ p. among p ρ) (and-right (distinct ρ) (below (corners s) (λ i. among (suc i) ρ)) rest₂)
+  L : AllPlaces s ρ
+  L = all-places s ρ (and-left (listOk s ρ) (ontoFaces s ρ) ok)
 
   in-ρ : (p : ℕ) → T (inside (corners s) p) → T (inside (length ρ) p)
-  in-ρ p i = subst (λ (m : ℕ). T (inside m p)) (sym long) i
+  in-ρ p i = subst (λ (m : ℕ). T (inside m p)) (sym (L .long)) i
 
   in-vs : (p : ℕ) → T (inside (corners s) p) → T (inside (length vs) p)
   in-vs p i = subst (λ (m : ℕ). T (inside m p)) (sym many) i
@@ -121,25 +102,12 @@ module _ (s : Solid) (vs : List ℕ) (many : length vs ≡ corners s) (ρ : List
 
   -- the place where ρ says p
   from : (p : ℕ) → T (inside (corners s) p) → (q : ℕ) × T (inside (corners s) q) × (at ρ q ≡ p)
-  from p i = let k = placeOf-at p ρ (ρ-all p i) in (placeOf p ρ, subst (λ (m : ℕ). T (inside m (placeOf p ρ))) long (k .1), k .0)
-
-  relisted-many : length (map (at vs) ρ) ≡ corners s
-  relisted-many = length-map ρ (at vs) ∙ long
+  from p i = let k = placeOf-at p ρ (L .has-all p i) in (placeOf p ρ, subst (λ (m : ℕ). T (inside m (placeOf p ρ))) (L .long) (k .1), k .0)
 
   -- proper, exactly if it was
-  proper-there : Proper s vs → Proper s (map (at vs) ρ)
-  proper-there h = record {
-    many = relisted-many;
-    apart-all = subst T (sym (ap distinct (map-agree (at vs) (number vs) (inside (corners s)) (at-f s vs h) ρ ρ-inside)
-        ∙ distinct-on (number vs) (number-inj vs (h .apart-all)) ρ)) ρ-distinct;
-  }
-
   proper-home : Proper s (map (at vs) ρ) → Proper s vs
   proper-home h = record { many = many; apart-all = inj-distinct vs apart }
     where
-      ws : List ℕ
-      ws = map (at vs) ρ
-
       same-place : (p q : ℕ) → T (inside (corners s) p) → T (inside (corners s) q) → at (map (at vs) ρ) p ≡ at (map (at vs) ρ) q → p ≡ q
       same-place p q i j e =
           number-inj (map (at vs) ρ) (h .apart-all) p q (sym (at-f s (map (at vs) ρ) h p i) ∙ e ∙ at-f s (map (at vs) ρ) h q j)
@@ -158,19 +126,19 @@ module _ (s : Solid) (vs : List ℕ) (many : length vs ≡ corners s) (ρ : List
   proper-relisted =
       bool-iff (proper (element s (map (at vs) ρ))) (proper (element s vs))
       (λ h. to-proper vs (proper-home (from-proper s (map (at vs) ρ) h)))
-      (λ h. to-proper (map (at vs) ρ) (proper-there (from-proper s vs h)))
+      (λ h. to-proper (map (at vs) ρ) (listed-proper s vs (from-proper s vs h) ρ L))
 
   -- the same corners
   corner-home : Sub (map (at vs) ρ) vs
   corner-home v h =
       let k = among-map (at vs) ρ v h in
-      subst (λ (w : ℕ). T (among w vs)) (k .2) (at-among vs (k .0) (in-vs (k .0) (among-every (inside (corners s)) ρ ρ-inside (k .0) (k .1))))
+      subst (λ (w : ℕ). T (among w vs)) (k .2) (at-among vs (k .0) (in-vs (k .0) (among-every (inside (corners s)) ρ (L .all-inside) (k .0) (k .1))))
 
   corner-there : Sub vs (map (at vs) ρ)
   corner-there v h =
       let k = placeOf-at v vs h in
       subst (λ (w : ℕ). T (among w (map (at vs) ρ))) (k .0)
-      (map-among (at vs) ρ (placeOf v vs) (ρ-all (placeOf v vs) (subst (λ (m : ℕ). T (inside m (placeOf v vs))) many (k .1))))
+      (map-among (at vs) ρ (placeOf v vs) (L .has-all (placeOf v vs) (subst (λ (m : ℕ). T (inside m (placeOf v vs))) many (k .1))))
 
   -- the same cycles
   composed : (F : Face ℕ) → onFace (λ p. at vs (at ρ p)) F ≡ onFace (at vs) (onFace (at ρ) F)

@@ -1,29 +1,27 @@
 -- A tetrahedron stays one: the cut of a tetrahedron is itself as it is written, and what is written once is not changed by writing it again.
 -- Assumes nothing.
-use mathlib.Core.Path.{_≡_, refl, sym, _∙_, ap, ap₂, subst}
-use mathlib.Core.Bool.{Bool, true, false, cond, not, _&&_, _||_}
-use mathlib.Core.List.{List, [], _∷_, _++_, map, List·Memᴰ, List·Memᴰ·head, List·Memᴰ·tail, List·Memᴰ·cases-cons, List·Memᴰ·not-nil, Memᴰ·of-map}
-use mathlib.Core.Logic.{_⊎_, inl, inr, _≢_}
-use Prim.Native.Nat.{ℕ, _≤_, _<_, min}
+use mathlib.Core.Path.{_≡_, refl, sym, _∙_, ap, ap₂}
+use mathlib.Core.Bool.{Bool, true, false, cond, not}
+use mathlib.Core.List.{List, [], _∷_, _++_, map, List·Memᴰ, List·Memᴰ·head, List·Memᴰ·tail, List·Memᴰ·cases-cons, Memᴰ·of-map}
+use mathlib.Core.Logic.{_⊎_, inl, inr}
+use Prim.Native.Nat.{ℕ, _≤_}
 use native.Mathlib.Omega.{arith}
-use lib.Dec.{eqb, T, eqb-refl}
+use lib.Dec.{eqb, T}
 use borrow.Author.Tests.{eqb-true, eqb-false, eq-eqb, ne-eqb}
 use Rattle.laws.specs.Words.{every, distinct, keep, gather, lowest}
-use Rattle.laws.proofs.TestLaws.{and-left, and-right, T-true, true-T, distinct-cons, not-among-cons}
-use Rattle.solids.specs.Solids.{tetrahedron, Face, Tri, tri, Tet, tet, Element, element, ofTet, onTet, holds, facesOf}
-use Rattle.solids.specs.Cut.{cutFace, follow, fan, firstLowest, secondLowest, written, upTo, insert, ascending, inOrder, tetsOf, cut, cutMesh}
+use Rattle.laws.proofs.TestLaws.{and-left, and-right}
+use Rattle.solids.specs.Solids.{Tet, tet, Element, ofTet, holds, facesOf}
+use Rattle.solids.specs.Cut.{cutFace, follow, firstLowest, secondLowest, written, upTo, insert, ascending, inOrder, tetsOf, cut, cutMesh}
 use Rattle.solids.specs.Listings.{asElement}
 use Rattle.solids.proofs.WrittenLaws.{Apart, Least, first, second, third, fourth, least, first-pairs, first-halves, first-back, written-turn, turned-apart, pairs-apart, halves-apart}
 use Rattle.solids.proofs.RenamingLaws.{apart-on}
+use Rattle.solids.proofs.FaceFacts.{eqb-self}
 
 -- ---- the cut of a tetrahedron
 
 -- four different vertices
 pub distinct-apart : (a b c d : ℕ) → T (distinct (a ∷ b ∷ c ∷ d ∷ [])) → Apart a b c d
 distinct-apart a b c d h = apart-on (λ p. p) (λ p q e. e) (tet a b c d) h
-
-eqb-self : (v : ℕ) → eqb v v ≡ true
-eqb-self v = T-true (eqb v v) (eqb-refl v)
 
 -- the fan from a vertex
 abbrev fanFrom : ℕ → Tet ℕ → List (Tet ℕ)
