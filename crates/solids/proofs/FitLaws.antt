@@ -2,7 +2,7 @@
 -- Assumes nothing.
 use mathlib.Core.Path.{_≡_, refl, sym, _∙_, ap, subst}
 use mathlib.Core.Bool.{Bool, true, false, _&&_, _||_}
-use mathlib.Core.List.{List, [], _∷_, _++_, map, List·Memᴰ, List·Memᴰ·cases-cons, List·Memᴰ·not-nil}
+use mathlib.Core.List.{List, [], _∷_, _++_, List·Memᴰ, List·Memᴰ·cases-cons, List·Memᴰ·not-nil}
 use mathlib.Core.Logic.{_⊎_, inl, inr}
 use Prim.Native.Nat.{ℕ}
 use lib.Dec.{leb, T}
@@ -10,7 +10,7 @@ use lib.ListN.{length}
 use Rattle.laws.specs.Words.{some, among, distinct, gather}
 use Rattle.laws.proofs.TestLaws.{and-left, and-right, and-both, or-cases, or-left, or-right}
 use Rattle.laws.proofs.EveryLaws.{some-at}
-use Rattle.solids.specs.Solids.{tetrahedron, hexahedron, Face, Edge, Element, element, ofFace, ends, edgesOf, holds, cornersOf, facesOf}
+use Rattle.solids.specs.Solids.{Face, Edge, Element, element, ofFace, ends, edgesOf, holds, cornersOf, facesOf}
 use Rattle.solids.specs.Rotations.{sameFace}
 use Rattle.solids.specs.Fit.{proper, common, sameSet, hasEdge, backFace, shareFace, fits}
 use Rattle.solids.proofs.ShapeLaws.{from-proper}
@@ -203,13 +203,3 @@ swapped e x he hx h = go (fits-parts e x h)
 
 pub fits-sym : (e x : Element) → T (proper e) → T (proper x) → fits e x ≡ fits x e
 fits-sym e x he hx = bool-iff (fits e x) (fits x e) (swapped e x he hx) (swapped x e hx he)
-
--- ---- a look at the page's samples of fitting (a check of the definition)
-
-abbrev hx : Element
-hx = element hexahedron (1 ∷ 2 ∷ 3 ∷ 4 ∷ 5 ∷ 6 ∷ 7 ∷ 8 ∷ [])
-
-fit-samples : map (fits hx) (element hexahedron (5 ∷ 6 ∷ 7 ∷ 8 ∷ 9 ∷ 10 ∷ 11 ∷ 12 ∷ []) ∷ element hexahedron (5 ∷ 8 ∷ 7 ∷ 6 ∷ 9 ∷ 12 ∷ 11 ∷ 10 ∷ []) ∷ element tetrahedron (5 ∷ 6 ∷ 7 ∷ 9 ∷ []) ∷ [])
-    ≡ true ∷ false ∷ false ∷ []
-unfolding fits
-fit-samples = refl

@@ -9,7 +9,7 @@ use native.Mathlib.Omega.{arith}
 use lib.Dec.{eqb, leb, T, eqb→eq, leb→le}
 use lib.ListN.{length}
 use Rattle.laws.specs.Words.{gather, every, some, among, keep}
-use Rattle.solids.specs.Solids.{Solid, Face, Tri, tri, Element, element, ofFace, ofTri, holds, facesOf, cornersOf, Edge, edge, ends, edgesOf}
+use Rattle.solids.specs.Solids.{Solid, tetrahedron, hexahedron, Face, Tri, tri, Element, element, ofFace, ofTri, holds, facesOf, cornersOf, Edge, edge, ends, edgesOf}
 use Rattle.solids.specs.Rotations.{sameFace}
 use Rattle.solids.specs.Fit.{proper, common, sameSet, hasEdge, backFace, fits}
 use Rattle.solids.specs.Surface.{back, times, Piece, Agree}
@@ -17,6 +17,16 @@ use Rattle.laws.proofs.TestLaws.{or-cases, or-left, or-right, and-left, and-rig
 use Rattle.laws.proofs.EveryLaws.{some-at, among-every}
 use Rattle.solids.proofs.CycleLaws.{Cycle, test-cycle, holds-across, back-back}
 use Rattle.solids.proofs.FaceFacts.{TriApart, Apart₃}
+
+-- a look at the page's samples of fitting (a check of the definition)
+
+abbrev hx : Element
+hx = element hexahedron (1 ∷ 2 ∷ 3 ∷ 4 ∷ 5 ∷ 6 ∷ 7 ∷ 8 ∷ [])
+
+fit-samples : map (fits hx) (element hexahedron (5 ∷ 6 ∷ 7 ∷ 8 ∷ 9 ∷ 10 ∷ 11 ∷ 12 ∷ []) ∷ element hexahedron (5 ∷ 8 ∷ 7 ∷ 6 ∷ 9 ∷ 12 ∷ 11 ∷ 10 ∷ []) ∷ element tetrahedron (5 ∷ 6 ∷ 7 ∷ 9 ∷ []) ∷ [])
+    ≡ true ∷ false ∷ false ∷ []
+unfolding fits
+fit-samples = refl
 
 -- what a face shared by two pieces is
 pub record Shared (p q : Piece) : Type 0 where
