@@ -127,7 +127,7 @@ module _ (t : Tri ℕ) where
   times-across F G h c = times-cycle (backFace F) G (back-apart F h) c ∙ times-back F h
 
 -- the corners are the same
-or-turn₃ : (a b c : Bool) → (a || (b || (c || false))) ≡ (b || (c || (a || false)))
+pub or-turn₃ : (a b c : Bool) → (a || (b || (c || false))) ≡ (b || (c || (a || false)))
 or-turn₃ true true c = refl
 or-turn₃ true false true = refl
 or-turn₃ true false false = refl
@@ -135,7 +135,7 @@ or-turn₃ false true c = refl
 or-turn₃ false false true = refl
 or-turn₃ false false false = refl
 
-or-turn₄ : (a b c d : Bool) → (a || (b || (c || (d || false)))) ≡ (b || (c || (d || (a || false))))
+pub or-turn₄ : (a b c d : Bool) → (a || (b || (c || (d || false)))) ≡ (b || (c || (d || (a || false))))
 or-turn₄ true true c d = refl
 or-turn₄ true false true d = refl
 or-turn₄ true false false true = refl
@@ -170,7 +170,7 @@ module _ (v : ℕ) where
   holds-back (three p q r) = ap (λ x. eqb v p || x) (or-swap₃ (eqb v r) (eqb v q))
   holds-back (four p q r s) = ap (λ x. eqb v p || x) (or-swap₄ (eqb v s) (eqb v r) (eqb v q))
 
-  holds-cycle : (F G : Face ℕ) → Cycle F G → holds v G ≡ holds v F
+  pub holds-cycle : (F G : Face ℕ) → Cycle F G → holds v G ≡ holds v F
   holds-cycle F G (c0 e) = ap (holds v) e
   holds-cycle F G (c1 e) = ap (holds v) e ∙ holds-next F
   holds-cycle F G (c2 e) = ap (holds v) e ∙ holds-next (next F) ∙ holds-next F

@@ -28,7 +28,7 @@ use Rattle.solids.proofs.RelistedLaws.{among-on}
 use Rattle.solids.proofs.CycleLaws.{FaceApart, holds-next}
 
 -- corners of an element
-at-among : (vs : List ℕ) (p : ℕ) → T (inside (length vs) p) → T (among (at vs p) vs)
+pub at-among : (vs : List ℕ) (p : ℕ) → T (inside (length vs) p) → T (among (at vs p) vs)
 at-among vs zero h = absurd h
 at-among vs (suc i) h = go vs i (ltb→lt i (length vs) h)
   where
@@ -41,7 +41,7 @@ at-among vs (suc i) h = go vs i (ltb→lt i (length vs) h)
         or-right true b t = tt
         or-right false b t = t
 
-ofFace-on : (f : ℕ → ℕ) (F : Face ℕ) → ofFace (onFace f F) ≡ map f (ofFace F)
+pub ofFace-on : (f : ℕ → ℕ) (F : Face ℕ) → ofFace (onFace f F) ≡ map f (ofFace F)
 ofFace-on f (three p q r) = refl
 ofFace-on f (four p q r s) = refl
 
@@ -74,7 +74,7 @@ all-corners hexahedron = tt
 
 -- tests under a renaming
 module _ (f : ℕ → ℕ) (inj : (p q : ℕ) → f p ≡ f q → p ≡ q) where
-  all-among : (l m : List ℕ) → every (λ v. among v (map f m)) (map f l) ≡ every (λ v. among v m) l
+  pub all-among : (l m : List ℕ) → every (λ v. among v (map f m)) (map f l) ≡ every (λ v. among v m) l
   all-among [] m = refl
   all-among (x ∷ l) m = ap₂ {C = Bool} (λ a b. a && b) (among-on f inj x m) (all-among l m)
 
@@ -149,7 +149,7 @@ module _ (s : Solid) (vs : List ℕ) (h : Proper s vs) where
   inj = number-inj vs (h .apart-all)
 
   -- a face of the element is a renamed face of the solid
-  face-of : (F : Face ℕ) → List·Memᴰ F (facesOf (element s vs)) → (G : Face ℕ) × List·Memᴰ G (faces s) × (onFace (number vs) G ≡ F)
+  pub face-of : (F : Face ℕ) → List·Memᴰ F (facesOf (element s vs)) → (G : Face ℕ) × List·Memᴰ G (faces s) × (onFace (number vs) G ≡ F)
   face-of F m = Memᴰ·of-map (onFace (number vs)) (faces s) (subst (λ (fs : List (Face ℕ)). List·Memᴰ F fs) (faces-f s vs h) m)
 
   pub face-apart : (F : Face ℕ) → List·Memᴰ F (facesOf (element s vs)) → FaceApart F
@@ -192,10 +192,10 @@ module _ (s : Solid) (vs : List ℕ) (h : Proper s vs) where
       )
 
 -- a triangle of a cut face lies in the face
-eqb-self : (v : ℕ) → eqb v v ≡ true
+pub eqb-self : (v : ℕ) → eqb v v ≡ true
 eqb-self v = T-true (eqb v v) (eqb-refl v)
 
-or-true : (a : Bool) → (a || true) ≡ true
+pub or-true : (a : Bool) → (a || true) ≡ true
 or-true true = refl
 or-true false = refl
 

@@ -19,7 +19,6 @@ pub mod MeetLaws
 pub mod PairLaws
 pub mod MeshLaws
 pub mod RuleLaws
-pub mod OrderLaws
 pub mod DiagonalLaws
 pub mod HalfLaws
 pub mod RotationWords
@@ -29,4 +28,13 @@ pub mod EvenReorderings
 pub mod ReferenceTest
 pub mod FilledLaws
 pub mod TetLaws
+pub mod SetLaws
+pub mod CyclesAlike
+pub mod FitLaws
+pub mod RelistingLaws
+pub mod ReorderingLaws
+pub mod StaysOne
+pub mod LoneLaws
+pub mod CutOfCut
+pub mod NeighbourLaws
 pub mod Theorems

@@ -2,14 +2,14 @@
 -- Assumes nothing.
 use mathlib.Core.Path.{_≡_, refl, sym, _∙_, ap, subst}
 use mathlib.Core.Bool.{Bool, true, false, cond, _&&_, _||_}
-use mathlib.Core.List.{List, [], _∷_, List·Memᴰ}
+use mathlib.Core.List.{List, [], _∷_, map, List·Memᴰ}
 use mathlib.Core.Logic.{_⊎_, inl, inr}
 use Prim.Native.Nat.{ℕ, suc}
 use native.Mathlib.Omega.{arith}
 use lib.Dec.{eqb, leb, T, eqb→eq, leb→le}
 use lib.ListN.{length}
 use Rattle.laws.specs.Words.{gather, every, some, among, keep}
-use Rattle.solids.specs.Solids.{Face, Tri, tri, Element, ofFace, ofTri, holds, facesOf, cornersOf, Edge, edge, ends, edgesOf}
+use Rattle.solids.specs.Solids.{tetrahedron, hexahedron, Face, Tri, tri, Element, element, ofFace, ofTri, holds, facesOf, cornersOf, Edge, edge, ends, edgesOf}
 use Rattle.solids.specs.Rotations.{sameFace}
 use Rattle.solids.specs.Fit.{common, sameSet, hasEdge, backFace, fits}
 use Rattle.solids.specs.Surface.{back, times, Piece, Agree}
@@ -17,6 +17,16 @@ use Rattle.laws.proofs.TestLaws.{or-cases, or-left, or-right, and-left, and-rig
 use Rattle.laws.proofs.EveryLaws.{some-at, among-every}
 use Rattle.solids.proofs.CycleLaws.{Cycle, test-cycle, holds-across, back-back}
 use Rattle.solids.proofs.FaceFacts.{TriApart, Apart₃}
+
+-- a look at the page's samples of fitting (a check of the definition)
+
+abbrev hx : Element
+hx = element hexahedron (1 ∷ 2 ∷ 3 ∷ 4 ∷ 5 ∷ 6 ∷ 7 ∷ 8 ∷ [])
+
+fit-samples : map (fits hx) (element hexahedron (5 ∷ 6 ∷ 7 ∷ 8 ∷ 9 ∷ 10 ∷ 11 ∷ 12 ∷ []) ∷ element hexahedron (5 ∷ 8 ∷ 7 ∷ 6 ∷ 9 ∷ 12 ∷ 11 ∷ 10 ∷ []) ∷ element tetrahedron (5 ∷ 6 ∷ 7 ∷ 9 ∷ []) ∷ [])
+    ≡ true ∷ false ∷ false ∷ []
+unfolding fits
+fit-samples = refl
 
 -- what a face shared by two pieces is
 pub record Shared (p q : Piece) : Type 0 where
@@ -48,7 +58,7 @@ Meet p q =
 pub meet-sym : (p q : Piece) → Meet p q → Meet q p
 meet-sym p q m t h a b = shared-sym (m t h b a)
 
-among-keep : (P : ℕ → Bool) (l : List ℕ) (v : ℕ) → T (among v l) → T (P v) → T (among v (keep P l))
+pub among-keep : (P : ℕ → Bool) (l : List ℕ) (v : ℕ) → T (among v l) → T (P v) → T (among v (keep P l))
 among-keep P [] v h p = absurd h
 among-keep P (w ∷ l) v h p = go (eqb v w) refl (P w) refl h (λ k. among-keep P l v k p)
   where

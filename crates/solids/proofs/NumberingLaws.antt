@@ -152,11 +152,11 @@ lowest-among v (w ∷ ws) = go (leb v (lowest (w ∷ ws))) refl (lowest-among w 
         let m : lowest (v ∷ w ∷ ws) ≡ lowest (w ∷ ws) = omega arith in
         rw (ne-eqb (lowest (v ∷ w ∷ ws)) v (omega arith)) (subst (λ (x : ℕ). T (among x (w ∷ ws))) (sym m) ih)
 
-at-suc : (n w : ℕ) (ws : List ℕ) (p : ℕ) → T (inside n p) → at (w ∷ ws) (suc p) ≡ at ws p
+pub at-suc : (n w : ℕ) (ws : List ℕ) (p : ℕ) → T (inside n p) → at (w ∷ ws) (suc p) ≡ at ws p
 at-suc n w ws zero h = absurd h
 at-suc n w ws (suc i) h = refl
 
-inside-suc : (n p : ℕ) → T (inside n p) → T (inside (suc n) (suc p))
+pub inside-suc : (n p : ℕ) → T (inside n p) → T (inside (suc n) (suc p))
 inside-suc n zero h = absurd h
 inside-suc n (suc i) h = lt→ltb (suc i) (suc n) (let l = ltb→lt i n h in omega arith)
 

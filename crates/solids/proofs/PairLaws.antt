@@ -7,17 +7,18 @@ use mathlib.Core.Logic.{_⊎_, inl, inr}
 use Prim.Native.Nat.{ℕ, zero, suc, _+_, _-_, _≤_}
 use native.Mathlib.Nat.{not-suc-le-zero}
 use native.Mathlib.Omega.{arith}
-use lib.Dec.{eqb, T, eqb-refl}
+use lib.Dec.{T}
 use Rattle.laws.specs.Words.{gather, every, among, count}
 use Rattle.solids.specs.Solids.{Face, Tri, tri, Element, element, ofFace, ofTri, holds, facesOf, cornersOf}
 use Rattle.solids.specs.Fit.{proper, sameSet}
 use Rattle.solids.specs.Surface.{back, sameTri, times, owners, within, Piece, skin, Closed}
-use Rattle.laws.proofs.TestLaws.{or-left, or-right, and-both, and-left, true-T}
+use Rattle.laws.proofs.TestLaws.{and-both, and-left, true-T}
 use Rattle.laws.proofs.EveryLaws.{every-both, every-implies, count-append, among-every}
 use Rattle.solids.proofs.ShapeLaws.{from-proper}
 use Rattle.solids.proofs.CycleLaws.{back-back}
 use Rattle.solids.proofs.FaceFacts.{Apart₃, distinct-apart₃, face-corners, face-once}
 use Rattle.solids.proofs.MeetLaws.{Shared, Meet}
+use Rattle.solids.proofs.SetLaws.{sub-every}
 
 -- what is known of a piece of a proper element
 pub record Good (p : Piece) : Type 0 where
@@ -66,12 +67,6 @@ and-swap false b c t = absurd t
 
 every-back : (P : ℕ → Bool) (t : Tri ℕ) → T (every P (ofTri (back t))) → T (every P (ofTri t))
 every-back P (tri a b c) h = and-swap (P a) (P c) (P b) h
-
-each-self : (l m : List ℕ) → ((v : ℕ) → T (among v l) → T (among v m)) → T (every (λ v. among v m) l)
-each-self [] m e = tt
-each-self (x ∷ l) m e =
-    and-both (among x m) (every (λ v. among v m) l) (e x (or-left (eqb x x) (among x l) (eqb-refl x)))
-    (each-self l m (λ v h. e v (or-right (eqb v x) (among v l) h)))
 
 pub count-mem : {A : Type 0} (P : A → Bool) (l : List A) (x : A) → List·Memᴰ x l → T (P x) → 1 ≤ count P l
 count-mem P [] x m h = absurd (List·Memᴰ·not-nil m)
@@ -140,8 +135,8 @@ module _ (e x : Piece) (ge : Good e) (gx : Good x) (m : Meet e x) where
         omega arith,
         count-mem (λ G. sameSet (ofFace (S .mine)) (ofFace G)) (facesOf (x .whole)) (S .theirs) (S .in-theirs)
             (and-both (every (λ v. among v (ofFace (S .theirs))) (ofFace (S .mine))) (every (λ v. among v (ofFace (S .mine))) (ofFace (S .theirs)))
-            (each-self (ofFace (S .mine)) (ofFace (S .theirs)) (λ v h. subst T (sym (S .same v)) h))
-            (each-self (ofFace (S .theirs)) (ofFace (S .mine)) (λ v h. subst T (S .same v) h))),
+            (sub-every (ofFace (S .mine)) (ofFace (S .theirs)) (λ v h. subst T (sym (S .same v)) h))
+            (sub-every (ofFace (S .theirs)) (ofFace (S .mine)) (λ v h. subst T (S .same v) h))),
       )
 
   -- C: where the other has the face too, it owns the reverse

@@ -60,7 +60,7 @@ module _ (f : ℕ → ℕ) (inj : (p q : ℕ) → f p ≡ f q → p ≡ q) where
   among-on v [] = refl
   among-on v (w ∷ l) = ap₂ {C = Bool} (λ x y. x || y) (eqb-on f inj v w) (among-on v l)
 
-  distinct-on : (l : List ℕ) → distinct (map f l) ≡ distinct l
+  pub distinct-on : (l : List ℕ) → distinct (map f l) ≡ distinct l
   distinct-on [] = refl
   distinct-on (v ∷ l) = ap₂ {C = Bool} (λ x y. not x && y) (among-on v l) (distinct-on l)
 
@@ -69,11 +69,11 @@ getD-map g [] i h = absurd (not-suc-le-zero h)
 getD-map g (x ∷ l) zero h = refl
 getD-map g (x ∷ l) (suc i) h = getD-map g l i (le-of-suc-le-suc h)
 
-at-map : (g : ℕ → ℕ) (l : List ℕ) (p : ℕ) → T (inside (length l) p) → at (map g l) p ≡ g (at l p)
+pub at-map : (g : ℕ → ℕ) (l : List ℕ) (p : ℕ) → T (inside (length l) p) → at (map g l) p ≡ g (at l p)
 at-map g l zero h = absurd h
 at-map g l (suc i) h = getD-map g l i (ltb→lt i (length l) h)
 
-at-every : (P : ℕ → Bool) (l : List ℕ) → T (every P l) → (p : ℕ) → T (inside (length l) p) → T (P (at l p))
+pub at-every : (P : ℕ → Bool) (l : List ℕ) → T (every P l) → (p : ℕ) → T (inside (length l) p) → T (P (at l p))
 at-every P l h zero i = absurd i
 at-every P l h (suc i) k = go l h i (ltb→lt i (length l) k)
   where
@@ -82,43 +82,50 @@ at-every P l h (suc i) k = go l h i (ltb→lt i (length l) k)
     go (x ∷ l) h zero k = and-left (P x) (every P l) h
     go (x ∷ l) h (suc i) k = go l (and-right (P x) (every P l) h) i (le-of-suc-le-suc k)
 
+-- a list of all the places of a solid, each once
+pub record AllPlaces (s : Solid) (ρ : List ℕ) : Type 0 where
+  pub long : length ρ ≡ corners s
+  pub all-inside : T (every (inside (corners s)) ρ)
+  pub apart-all : T (distinct ρ)
+  pub has-all : (p : ℕ) → T (inside (corners s) p) → T (among p ρ)
+
+pub all-places : (s : Solid) (ρ : List ℕ) → T (listOk s ρ) → AllPlaces s ρ
+all-places s ρ ok =
+    let A = eqb (length ρ) (corners s) in
+    let B = every (inside (corners s)) ρ in
+    let C = distinct ρ in
+    let D = below (corners s) (λ i. among (suc i) ρ) in
+    let r = and-right A (B && (C && D)) ok in
+    let q = and-right B (C && D) r in
+    record {
+      long = eqb→eq (length ρ) (corners s) (and-left A (B && (C && D)) ok);
+      all-inside = and-left B (C && D) r;
+      apart-all = and-left C D q;
+      has-all = at-place (corners s) (λ p. among p ρ) (and-right C D q);
+    }
+
+-- corners listed by it stay proper
+pub listed-proper : (s : Solid) (vs : List ℕ) → Proper s vs → (ρ : List ℕ) → AllPlaces s ρ → Proper s (map (at vs) ρ)
+listed-proper s vs h ρ L = record {
+  many = length-map ρ (at vs) ∙ L .long;
+  apart-all = subst T (sym (ap distinct (map-agree (at vs) (number vs) (inside (corners s)) (at-f s vs h) ρ (L .all-inside)) ∙ distinct-on (number vs) (number-inj vs (h .apart-all)) ρ)) (L .apart-all);
+}
+
 module _ (s : Solid) (vs : List ℕ) (h : Proper s vs) (ρ : List ℕ) (ok : T (turnOk s ρ)) where
-  n : ℕ
-  n = corners s
-
-  list-ok : T (listOk s ρ)
-  list-ok = and-left (listOk s ρ) (allHalves s (rotOk s ρ)) ok
-
-  ws : List ℕ
-  ws = map (at vs) ρ
-
-  long : length ρ ≡ corners s
-  long = eqb→eq (length ρ) (corners s) (and-left (eqb (length ρ) (corners s)) (every (inside (corners s)) ρ && (distinct ρ && below (corners s) (λ i. among (suc i) ρ))) list-ok)
-
-  rest₁ : T (every (inside (corners s)) ρ && (distinct ρ && below (corners s) (λ i. among (suc i) ρ)))
-  rest₁ = and-right (eqb (length ρ) (corners s)) (every (inside (corners s)) ρ && (distinct ρ && below (corners s) (λ i. among (suc i) ρ))) list-ok
-
-  ρ-inside : T (every (inside (corners s)) ρ)
-  ρ-inside = and-left (every (inside (corners s)) ρ) (distinct ρ && below (corners s) (λ i. among (suc i) ρ)) rest₁
-
-  rest₂ : T (distinct ρ && below (corners s) (λ i. among (suc i) ρ))
-  rest₂ = and-right (every (inside (corners s)) ρ) (distinct ρ && below (corners s) (λ i. among (suc i) ρ)) rest₁
+  L : AllPlaces s ρ
+  L = all-places s ρ (and-left (listOk s ρ) (allHalves s (rotOk s ρ)) ok)
 
   inj : (p q : ℕ) → number vs p ≡ number vs q → p ≡ q
   inj = number-inj vs (h .apart-all)
 
   pub turned-sound : Proper s (map (at vs) ρ)
-  turned-sound = record {
-    many = length-map ρ (at vs) ∙ long;
-    apart-all = subst T (sym (ap distinct (map-agree (at vs) (number vs) (inside (corners s)) (at-f s vs h) ρ ρ-inside) ∙ distinct-on (number vs) inj ρ))
-        (and-left (distinct ρ) (below (corners s) (λ i. among (suc i) ρ)) rest₂);
-  }
+  turned-sound = listed-proper s vs h ρ L
 
   in-ρ : (p : ℕ) → T (inside (corners s) p) → T (inside (length ρ) p)
-  in-ρ p i = subst (λ (m : ℕ). T (inside m p)) (sym long) i
+  in-ρ p i = subst (λ (m : ℕ). T (inside m p)) (sym (L .long)) i
 
   to-inside : (p : ℕ) → T (inside (corners s) p) → T (inside (corners s) (at ρ p))
-  to-inside p i = at-every (inside (corners s)) ρ ρ-inside p (in-ρ p i)
+  to-inside p i = at-every (inside (corners s)) ρ (L .all-inside) p (in-ρ p i)
 
   at-turned : (p : ℕ) → T (inside (corners s) p) → at (map (at vs) ρ) p ≡ at vs (at ρ p)
   at-turned p i = at-map (at vs) ρ p (in-ρ p i)
@@ -142,8 +149,8 @@ module _ (s : Solid) (vs : List ℕ) (h : Proper s vs) (ρ : List ℕ) (ok : T (
 
   lowest-there : lowest (map (at vs) ρ) ≤ lowest vs
   lowest-there =
-      let p = placeOf-at (first vs) ρ (at-place (corners s) (λ q. among q ρ) (and-right (distinct ρ) (below (corners s) (λ i. among (suc i) ρ)) rest₂) (first vs) (first-inside s vs h)) in
-      let i = subst (λ (m : ℕ). T (inside m (placeOf (first vs) ρ))) long (p .1) in
+      let p = placeOf-at (first vs) ρ (L .has-all (first vs) (first-inside s vs h)) in
+      let i = subst (λ (m : ℕ). T (inside m (placeOf (first vs) ρ))) (L .long) (p .1) in
       let x = lowest-at (map (at vs) ρ) (placeOf (first vs) ρ) (subst (λ (m : ℕ). T (inside m (placeOf (first vs) ρ))) (sym (turned-sound .many)) i) in
       let y = at-turned (placeOf (first vs) ρ) i in
       let z = ap (at vs) (p .0) in
@@ -269,26 +276,17 @@ module _ (s : Solid) (vs : List ℕ) (h : Proper s vs) (ρ : List ℕ) (ok : T (
           (λ F m. ap (λ (ks : List ℕ). lookFor Xs ks F) hs-are ∙ look-right N inj Xs (and-left A₅ A₆ r₅) F m) fs (and-right A₅ A₆ r₅)
 
 -- a word of rotations
-gen-inside : (s : Solid) (i : ℕ) → T (every (inside (corners s)) (gen s i))
-gen-inside s i =
-    let l = and-left (listOk s (gen s i)) (allHalves s (rotOk s (gen s i))) (all-turn s i) in
-    and-left (every (inside (corners s)) (gen s i)) (distinct (gen s i) && below (corners s) (λ j. among (suc j) (gen s i)))
-    (and-right (eqb (length (gen s i)) (corners s)) (every (inside (corners s)) (gen s i) && (distinct (gen s i) && below (corners s) (λ j. among (suc j) (gen s i)))) l)
-
-gen-long : (s : Solid) (i : ℕ) → length (gen s i) ≡ corners s
-gen-long s i =
-    let l = and-left (listOk s (gen s i)) (allHalves s (rotOk s (gen s i))) (all-turn s i) in
-    eqb→eq (length (gen s i)) (corners s)
-    (and-left (eqb (length (gen s i)) (corners s)) (every (inside (corners s)) (gen s i) && (distinct (gen s i) && below (corners s) (λ j. among (suc j) (gen s i)))) l)
+gen-places : (s : Solid) (i : ℕ) → AllPlaces s (gen s i)
+gen-places s i = all-places s (gen s i) (and-left (listOk s (gen s i)) (allHalves s (rotOk s (gen s i))) (all-turn s i))
 
 gen-in : (s : Solid) (i p : ℕ) → T (inside (corners s) p) → T (inside (length (gen s i)) p)
-gen-in s i p k = subst (λ (m : ℕ). T (inside m p)) (sym (gen-long s i)) k
+gen-in s i p k = subst (λ (m : ℕ). T (inside m p)) (sym (gen-places s i .long)) k
 
 product-inside : (s : Solid) (i : ℕ) (w : List ℕ) → T (every (inside (corners s)) (product s i w))
-product-inside s i [] = gen-inside s i
+product-inside s i [] = gen-places s i .all-inside
 product-inside s i (j ∷ w) =
     every-map (inside (corners s)) (at (gen s i)) (inside (corners s))
-    (λ p k. at-every (inside (corners s)) (gen s i) (gen-inside s i) p (gen-in s i p k)) (product s j w) (product-inside s j w)
+    (λ p k. at-every (inside (corners s)) (gen s i) (gen-places s i .all-inside) p (gen-in s i p k)) (product s j w) (product-inside s j w)
 
 pub turned-word : (s : Solid) (i : ℕ) (w : List ℕ) (vs : List ℕ) → Proper s vs → cut (element s (map (at vs) (product s i w))) ≡ cut (element s vs)
 turned-word s i [] vs h = rotated s vs h (gen s i) (all-turn s i)

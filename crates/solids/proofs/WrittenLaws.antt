@@ -86,7 +86,7 @@ turn-second a b c d h k l = go (three b c) (three b d) (three c d)
 
 module _ {a b c d : ℕ} (h : Apart a b c d) where
   -- two pairs exchanged
-  first-pairs : firstLowest (tet b a d c) ≡ firstLowest (tet a b c d)
+  pub first-pairs : firstLowest (tet b a d c) ≡ firstLowest (tet a b c d)
   first-pairs = go (least h)
     where
       go : Least a b c d → firstLowest (tet b a d c) ≡ firstLowest (tet a b c d)
@@ -95,7 +95,7 @@ module _ {a b c d : ℕ} (h : Apart a b c d) where
       go (third p q r) = first-d b a d c q p r ∙ sym (first-c a b c d p q r)
       go (fourth p q r) = first-c b a d c q p r ∙ sym (first-d a b c d p q r)
 
-  first-halves : firstLowest (tet c d a b) ≡ firstLowest (tet a b c d)
+  pub first-halves : firstLowest (tet c d a b) ≡ firstLowest (tet a b c d)
   first-halves = go (least h)
     where
       go : Least a b c d → firstLowest (tet c d a b) ≡ firstLowest (tet a b c d)
@@ -104,7 +104,7 @@ module _ {a b c d : ℕ} (h : Apart a b c d) where
       go (third p q r) = first-a c d a b r p q ∙ sym (first-c a b c d p q r)
       go (fourth p q r) = first-b c d a b r p q ∙ sym (first-d a b c d p q r)
 
-  first-back : firstLowest (tet d c b a) ≡ firstLowest (tet a b c d)
+  pub first-back : firstLowest (tet d c b a) ≡ firstLowest (tet a b c d)
   first-back = go (least h)
     where
       go : Least a b c d → firstLowest (tet d c b a) ≡ firstLowest (tet a b c d)
@@ -114,7 +114,7 @@ module _ {a b c d : ℕ} (h : Apart a b c d) where
       go (fourth p q r) = first-a d c b a r q p ∙ sym (first-d a b c d p q r)
 
   -- the last three turned
-  written-turn : written (tet a c d b) ≡ written (tet a b c d)
+  pub written-turn : written (tet a c d b) ≡ written (tet a b c d)
   written-turn = go (least h)
     where
       go : Least a b c d → written (tet a c d b) ≡ written (tet a b c d)
@@ -123,13 +123,13 @@ module _ {a b c d : ℕ} (h : Apart a b c d) where
       go (third p q r) = ap secondLowest (first-b a c d b p r q) ∙ turn-second c d a b (λ e. h .ad (sym e)) (λ e. h .bd (sym e)) (h .ab) ∙ ap secondLowest (sym (first-c a b c d p q r))
       go (fourth p q r) = ap secondLowest (first-c a c d b p r q) ∙ turn-second d c b a (λ e. h .bc (sym e)) (λ e. h .ac (sym e)) (λ e. h .ab (sym e)) ∙ ap secondLowest (sym (first-d a b c d p q r))
 
-turned-apart : {a b c d : ℕ} → Apart a b c d → Apart a c d b
+pub turned-apart : {a b c d : ℕ} → Apart a b c d → Apart a c d b
 turned-apart h = record { ab = h .ac; ac = h .ad; ad = h .ab; bc = h .cd; bd = λ e. h .bc (sym e); cd = λ e. h .bd (sym e) }
 
-pairs-apart : {a b c d : ℕ} → Apart a b c d → Apart b a d c
+pub pairs-apart : {a b c d : ℕ} → Apart a b c d → Apart b a d c
 pairs-apart h = record { ab = λ e. h .ab (sym e); ac = h .bd; ad = h .bc; bc = h .ad; bd = h .ac; cd = λ e. h .cd (sym e) }
 
-halves-apart : {a b c d : ℕ} → Apart a b c d → Apart c d a b
+pub halves-apart : {a b c d : ℕ} → Apart a b c d → Apart c d a b
 halves-apart h = record { ab = h .cd; ac = λ e. h .ac (sym e); ad = λ e. h .bc (sym e); bc = λ e. h .ad (sym e); bd = λ e. h .bd (sym e); cd = h .ab }
 
 -- one case or the other, under any property

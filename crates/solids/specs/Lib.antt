@@ -7,4 +7,5 @@ pub mod Rows
 pub mod Samples
 pub mod Fit
 pub mod Surface
+pub mod Listings
 pub mod Loops

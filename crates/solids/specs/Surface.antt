@@ -103,3 +103,9 @@ pub record SurfaceOf (ps : List Piece) : Type 0 where
 pub record SurfaceCut (es : List Element) : Type 0 where
   pub once : (t : Tri Vertex) → owners t (cutMesh es) ≤ 1
   pub surface : (t : Tri Vertex) → times t (gather cutFace (outerFaces es)) ≡ owners t (cutMesh es) - owners (back t) (cutMesh es)
+
+-- Two neighbours and their common face, F in the one and G in the other: G is the cycle F read backwards, and the triangles that the one cuts it into
+-- are those of the other, run round in the opposite direction.
+pub record CutAlike (F G : Face Vertex) : Type 0 where
+  pub backwards : T (sameFace (backFace F) G)
+  pub triangles : (t : Tri Vertex) → times t (cutFace G) ≡ times (back t) (cutFace F)
