@@ -70,6 +70,7 @@ const FILE_DAMAGE: &[(&str, FileDamage)] = &[
     ("one byte inserted", insert_byte),
     ("cut short", cut_short),
     ("something after EN", add_after_end),
+    ("lines that end in bytes 13 and 10", put_returns),
     ("a line dropped", drop_line),
     ("a line doubled", double_line),
     ("two lines exchanged", exchange_lines),
@@ -146,6 +147,11 @@ fn add_after_end(case: &mut FileCase, random: &mut Random) {
         "TE 1 2 3 4",
     ];
     case.bytes.extend_from_slice(random.pick(BEHIND).as_bytes());
+}
+
+fn put_returns(case: &mut FileCase, _: &mut Random) {
+    let lines: Vec<&[u8]> = case.bytes.split(|&byte| byte == b'\n').collect();
+    case.bytes = lines.join(&b"\r\n"[..]);
 }
 
 fn drop_line(case: &mut FileCase, random: &mut Random) {

@@ -12,9 +12,10 @@ use crate::twin::{Record, Solid};
 pub enum Style {
     /// Every face whole: hexahedra, or six pyramids round a centre.
     Whole,
-    /// The faces across one axis cut, the same way along each column, or whole along all of it: prisms and hexahedra.
+    /// The faces across one axis cut the same way along a column, or whole along all of it: prisms
+    /// and hexahedra.
     Columns(usize),
-    /// The faces in even planes cut through their all-even corner: pyramids and tetrahedra round that corner.
+    /// The faces in even planes cut through their all-even corner: pyramids and tetrahedra round it.
     Cones,
     /// Each face whole, so many times in eight, or cut at random.
     Mixed(u64),

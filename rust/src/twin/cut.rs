@@ -2,7 +2,9 @@
 
 use super::judge::judge;
 use super::refusal::{Answer, Fault};
-use super::solid::{Place, Record, Solid, Tetrahedron, Triangle, opposite, records, solid_of};
+use super::solid::{
+    Place, Record, Solid, Tetrahedron, Triangle, around, opposite, records, solid_of,
+};
 use super::{ELEMENT_WIDTH, TETRAHEDRON_WIDTH};
 
 /// The five tetrahedra of a hexahedron without a diagonal through the far corner,
@@ -83,7 +85,7 @@ pub fn cut_element(record: &Record) -> Block {
 /// The triangles of a cut face, turned so that the first corner has the lowest vertex number.
 pub fn cut_face(record: &Record, face: &[Place]) -> impl Iterator<Item = Triangle> {
     let first = first_corner(record, face);
-    let corner = move |step: usize| record[face[(first + step) % face.len()]];
+    let corner = move |step: usize| record[face[around(first + step, face.len())]];
     (1..face.len() - 1).map(move |step| [corner(0), corner(step), corner(step + 1)])
 }
 
@@ -115,12 +117,13 @@ fn far_faces(solid: Solid, place: Place) -> impl Iterator<Item = &'static [Place
     faces.filter(move |face| !face.contains(&place))
 }
 
-/// How many of a hexahedron's three far faces have their diagonal through the corner opposite to the lowest.
+/// How many of a hexahedron's three far faces have their diagonal through the corner opposite to
+/// the lowest.
 fn far_diagonals(record: &Record, lowest: Place) -> usize {
     let far = opposite(lowest);
     let through = |face: &&[Place]| {
         let first = first_corner(record, face);
-        face[first] == far || face[(first + 2) % 4] == far
+        face[first] == far || face[around(first + 2, 4)] == far
     };
     far_faces(Solid::Hexahedron, lowest).filter(through).count()
 }
@@ -146,13 +149,14 @@ fn five(record: &Record, lowest: Place) -> Block {
     block
 }
 
-/// A rotation of the hexahedron that turns a corner to place 1, as the list of what stands at places 1 to 8.
+/// A rotation of the hexahedron that turns a corner to place 1: what stands at places 1 to 8.
 ///
-/// A face of that corner, read from it, stands for the face 1 4 3 2; the other four places follow as opposite corners.
+/// A face of that corner, read from it, stands for the face 1 4 3 2; the other four places follow
+/// as opposite corners.
 fn turned_hexahedron(corner: Place) -> [Place; 8] {
     for face in Solid::Hexahedron.faces() {
         if let Some(step) = face.iter().position(|&place| place == corner) {
-            let [one, four, three, two] = [0, 1, 2, 3].map(|k| face[(step + k) % 4]);
+            let [one, four, three, two] = [0, 1, 2, 3].map(|k| face[around(step + k, 4)]);
             let [five, six, seven, eight] = [three, four, one, two].map(opposite);
             return [one, two, three, four, five, six, seven, eight];
         }

@@ -1,117 +1,110 @@
 //! Whether two elements fit, and the first pair of a mesh that does not.
 
-use super::solid::{Place, Record, Solid, solid_of};
+use super::solid::{Place, Record, around, solid_of};
 
-/// Which vertex numbers one element has; every `u16` is a number, so that none needs a bound.
-struct Marks([bool; 1 << 16]);
+/// A set of places of one element, bit p - 1 for place p.
+type Places = u8;
+
+/// The place that each vertex has in one element, as a set of one place or none; there is one
+/// for every `u16`, so that no lookup needs a bound.
+struct Marks([Places; 1 << 16]);
 
 impl Marks {
-    fn new() -> Box<Marks> {
-        Box::new(Marks([false; 1 << 16]))
-    }
-
-    /// Marks or unmarks the vertices of an element.
-    fn set(&mut self, record: &Record, marked: bool) {
-        for &vertex in corners(record) {
-            self.0[vertex as usize] = marked;
+    fn set(&mut self, record: &Record) {
+        for place in 1..=solid_of(record).corner_count() {
+            self.0[record[place] as usize] = bit(place);
         }
     }
 
-    /// How many vertices of an element are marked; the unused zeros never are.
-    fn count(&self, record: &Record) -> usize {
-        let mut count = 0;
+    /// Takes the marks of an element away; the mark of 0, the unused number, is never set.
+    fn clear(&mut self, record: &Record) {
         for &vertex in &record[1..] {
-            count += self.0[vertex as usize] as usize;
+            self.0[vertex as usize] = 0;
         }
-        count
-    }
-}
-
-/// The common vertices of two elements.
-struct Common {
-    vertices: [u16; 8],
-    length: usize,
-}
-
-impl Common {
-    fn of(a: &Record, b: &Record) -> Common {
-        let mut common = Common {
-            vertices: [0; 8],
-            length: 0,
-        };
-        for vertex in corners(a) {
-            if corners(b).contains(vertex) {
-                common.vertices[common.length] = *vertex;
-                common.length += 1;
-            }
-        }
-        common
     }
 
-    fn vertices(&self) -> &[u16] {
-        &self.vertices[..self.length]
+    /// The places of the marked element that hold vertices of another.
+    fn common(&self, other: &Record) -> Places {
+        let [_, vertices @ ..] = other;
+        vertices
+            .iter()
+            .fold(0, |places, &v| places | self.0[v as usize])
     }
 
-    fn holds(&self, vertex: u16) -> bool {
-        self.vertices().contains(&vertex)
+    /// The places of another element that hold marked vertices.
+    fn common_in(&self, other: &Record) -> Places {
+        let marked = |place: &Place| self.0[other[*place] as usize] != 0;
+        (1..=8)
+            .filter(marked)
+            .fold(0, |places, place| places | bit(place))
     }
 }
 
 /// The lowest j, with its lowest i below, of two judged elements that do not fit, from 1.
+///
+/// Every pair is compared; one with at most one common vertex fits and is left at that.
 pub fn first_misfit(elements: &[Record]) -> Option<(usize, usize)> {
-    let mut marks = Marks::new();
+    let mut marks = Marks([0; 1 << 16]);
     for (j, later) in elements.iter().enumerate() {
-        marks.set(later, true);
+        marks.set(later);
         for (i, earlier) in elements[..j].iter().enumerate() {
-            if marks.count(earlier) > 1 && !fits(earlier, later) {
+            let common = marks.common(earlier);
+            if common.count_ones() > 1 && !fits_in(earlier, marks.common_in(earlier), later, common)
+            {
                 return Some((j + 1, i + 1));
             }
         }
-        marks.set(later, false);
+        marks.clear(later);
     }
     None
 }
 
-/// Whether the common vertices are none, one, the ends of an edge of both, or a face of both in opposite directions.
+/// Whether two judged elements fit.
 pub fn fits(a: &Record, b: &Record) -> bool {
-    let common = Common::of(a, b);
-    match *common.vertices() {
-        [] | [_] => true,
-        [p, q] => has_edge(a, p, q) && has_edge(b, p, q),
-        _ => match (face_of(a, &common), face_of(b, &common)) {
+    fits_in(a, common_places(a, b), b, common_places(b, a))
+}
+
+/// Whether the common vertices, given by their places in both elements, are none, one, the ends of
+/// an edge of both, or a face of both, in opposite directions.
+fn fits_in(a: &Record, in_a: Places, b: &Record, in_b: Places) -> bool {
+    match in_a.count_ones() {
+        0 | 1 => true,
+        2 => has_edge(a, in_a) && has_edge(b, in_b),
+        _ => match (face_of(a, in_a), face_of(b, in_b)) {
             (Some(face), Some(other)) => is_reverse(a, face, b, other),
             _ => false,
         },
     }
 }
 
-/// The vertices of an element without the unused zeros.
-fn corners(record: &Record) -> &[u16] {
-    &record[1..=solid_of(record).corner_count()]
+/// The places of an element whose vertices are also another's.
+fn common_places(record: &Record, other: &Record) -> Places {
+    let others = &other[1..=solid_of(other).corner_count()];
+    (1..=solid_of(record).corner_count())
+        .filter(|&place| others.contains(&record[place]))
+        .fold(0, |places, place| places | bit(place))
 }
 
-/// The faces of an element, as places.
-fn faces(record: &Record) -> &'static [&'static [Place]] {
-    let solid: Solid = solid_of(record);
-    solid.faces()
+fn bit(place: Place) -> Places {
+    1 << (place - 1)
 }
 
-/// Whether two vertices are the ends of an edge, a side of a face.
-fn has_edge(record: &Record, p: u16, q: u16) -> bool {
-    faces(record).iter().any(|face| {
-        (0..face.len()).any(|step| {
-            let from = record[face[step]];
-            let to = record[face[(step + 1) % face.len()]];
-            (from, to) == (p, q) || (from, to) == (q, p)
-        })
+/// Whether two places are the ends of an edge, a side of a face.
+fn has_edge(record: &Record, ends: Places) -> bool {
+    let mut faces = solid_of(record).faces().iter();
+    faces.any(|face| {
+        let closing = bit(face[face.len() - 1]) | bit(face[0]);
+        closing == ends
+            || face
+                .windows(2)
+                .any(|side| bit(side[0]) | bit(side[1]) == ends)
     })
 }
 
-/// The face of an element whose vertices are exactly the common ones.
-fn face_of(record: &Record, common: &Common) -> Option<&'static [Place]> {
-    faces(record).iter().copied().find(|face| {
-        face.len() == common.length && face.iter().all(|&place| common.holds(record[place]))
-    })
+/// The face of an element that has exactly these places.
+fn face_of(record: &Record, places: Places) -> Option<&'static [Place]> {
+    let mut faces = solid_of(record).faces().iter().copied();
+    faces.find(|face| face.iter().fold(0, |set, &place| set | bit(place)) == places)
 }
 
 /// Whether a face's cycle is the cycle of another face of the same vertices read backwards.
@@ -119,6 +112,7 @@ fn is_reverse(a: &Record, face: &[Place], b: &Record, other: &[Place]) -> bool {
     let length = face.len();
     let start = (0..length).find(|&step| b[other[step]] == a[face[0]]);
     start.is_some_and(|start| {
-        (0..length).all(|step| a[face[step]] == b[other[(start + length - step) % length]])
+        let backwards = |step| b[other[around(start + length - step, length)]];
+        (0..length).all(|step| a[face[step]] == backwards(step))
     })
 }

@@ -106,6 +106,11 @@ pub fn opposite(place: Place) -> Place {
     }
 }
 
+/// A step round a cycle, for less than two rounds.
+pub fn around(step: usize, length: usize) -> usize {
+    if step < length { step } else { step - length }
+}
+
 /// The solid of a record whose kind has been judged.
 pub fn solid_of(record: &Record) -> Solid {
     Solid::of_kind(record[0]).expect("the kind has been judged")
