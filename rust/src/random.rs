@@ -64,10 +64,11 @@ impl Random {
     }
 }
 
-/// How many cases a test makes: so many, or what the environment variable `BRINE_CASES` says.
+/// How many cases a test makes: so many, or more where the environment variable `BRINE_CASES` says so.
 pub fn case_count(usual: usize) -> usize {
     let asked = std::env::var("BRINE_CASES").ok();
-    asked.and_then(|text| text.parse().ok()).unwrap_or(usual)
+    let asked = asked.and_then(|text| text.parse().ok());
+    asked.unwrap_or(0).max(usual)
 }
 
 /// A number spread over 64 bits, so that neighbouring seeds have nothing in common.

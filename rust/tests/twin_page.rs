@@ -288,6 +288,31 @@ fn volumes_and_signs_of_the_sample() {
 }
 
 #[test]
+fn an_element_with_a_flat_tetrahedron_is_unsound() {
+    // A pyramid of two tetrahedra, one of them flat, then one flat tetrahedron and one turned badly.
+    let elements = [
+        record(&[5, 1, 2, 3, 4, 5]),
+        record(&[4, 6, 7, 8, 9]),
+        record(&[4, 10, 12, 11, 13]),
+    ]
+    .concat();
+    let vertices = [
+        [[0, 0, 0], [1, 0, 0], [1, 1, 0], [2, 2, 0], [0, 0, 1]],
+        [[0, 0, 0], [1, 0, 0], [0, 1, 0], [5, 5, 0], [0, 0, 0]],
+        [[1, 0, 0], [0, 1, 0], [0, 0, 1], [0, 0, 0], [0, 0, 0]],
+    ]
+    .concat();
+    let expected = Signs {
+        positive: 1,
+        zero: 2,
+        negative: 1,
+        unsound: 3,
+    };
+    let signs = twin::signs(13, 3, &elements, vertices.as_flattened());
+    assert_eq!(signs, Ok(expected));
+}
+
+#[test]
 fn greatest_volumes() {
     let far = 500_000;
     let [a, b, c, d] = [

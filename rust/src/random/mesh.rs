@@ -243,7 +243,7 @@ fn finish(mut mesh: Mesh, random: &mut Random) -> Mesh {
     mesh
 }
 
-/// Moves every vertex a little, much, or anywhere within the limits, or leaves all as they are.
+/// Moves every vertex a little, much, or anywhere within the limits, or leaves them as they are.
 fn move_vertices(mesh: &mut Mesh, random: &mut Random) {
     let limit = COORDINATE_LIMIT;
     let noise = random.pick(&[0, 90, 90, 90, 700, limit]);
@@ -252,6 +252,19 @@ fn move_vertices(mesh: &mut Mesh, random: &mut Random) {
             let moved = *coordinate + random.between(-noise, noise);
             *coordinate = moved.clamp(-limit, limit);
         }
+    }
+    if random.once_in(4) {
+        flatten(mesh, random);
+    }
+}
+
+/// Gives some vertices a coordinate of others, so that volumes of zero occur.
+fn flatten(mesh: &mut Mesh, random: &mut Random) {
+    let count = mesh.vertices.len();
+    let axis = random.below(3);
+    for _ in 0..random.pick(&[1, 2, 5, count]) {
+        let [from, to] = [0; 2].map(|_| random.below(count));
+        mesh.vertices[to][axis] = mesh.vertices[from][axis];
     }
 }
 
