@@ -4,7 +4,9 @@ use mathlib.Core.Path.{_≡_, refl, sym, ap₂, subst}
 use mathlib.Core.Bool.{Bool, true, false, cond, _||_}
 use mathlib.Core.List.{List, [], _∷_, _++_, map, List·Memᴰ, List·Memᴰ·head, List·Memᴰ·tail, List·Memᴰ·cases-cons, List·Memᴰ·not-nil}
 use mathlib.Core.Logic.{_⊎_, inl, inr}
-use Prim.Native.Nat.{ℕ, _+_}
+use Prim.Native.Nat.{ℕ, zero, suc, _+_, _<_}
+use native.Mathlib.Nat.{le-of-suc-le-suc, not-suc-le-zero}
+use lib.ListN.{length, getD}
 use native.Mathlib.Omega.{arith}
 use lib.Dec.{eqb, T, eqb→eq}
 use Rattle.laws.specs.Words.{every, some, among, count}
@@ -39,6 +41,31 @@ module _ {A : Type 0} where
   -- from one test to another
   pub every-implies : (P Q : A → Bool) → ((x : A) → T (P x) → T (Q x)) → (l : List A) → T (every P l) → T (every Q l)
   every-implies P Q e l h = every-both P P Q (λ x p q. e x p) l h h
+
+  -- what holds of each member holds of the one at an index
+  pub every-index : (P : A → Bool) (l : List A) (d : A) (i : ℕ) → T (every P l) → i < length l → T (P (getD l i d))
+  every-index P [] d i h k = absurd (not-suc-le-zero k)
+  every-index P (x ∷ l) d zero h k = and-left (P x) (every P l) h
+  every-index P (x ∷ l) d (suc i) h k = every-index P l d i (and-right (P x) (every P l) h) (le-of-suc-le-suc k)
+
+  pub every-append : (P : A → Bool) (l m : List A) → T (every P l) → T (every P m) → T (every P (l ++ m))
+  every-append P [] m p q = q
+  every-append P (x ∷ l) m p q =
+      and-both (P x) (every P (l ++ m)) (and-left (P x) (every P l) p) (every-append P l m (and-right (P x) (every P l) p) q)
+
+  -- where no member passes Q, each passes a test that holds where Q fails
+  pub every-follows : (P Q : A → Bool) → ((x : A) → Q x ≡ false → T (P x)) → (l : List A) → some Q l ≡ false → T (every P l)
+  every-follows P Q f [] e = tt
+  every-follows P Q f (x ∷ l) e = follows (Q x) refl (every-follows P Q f l) e
+    where
+      follows : (a : Bool) → Q x ≡ a → (some Q l ≡ false → T (every P l)) → (a || some Q l) ≡ false → T (every P (x ∷ l))
+      follows true p rest e = absurd (subst T e tt)
+      follows false p rest e = and-both (P x) (every P l) (f x p) (rest e)
+
+  -- where each member passes P, none passes a test that fails where P holds
+  pub none-follows : (P Q : A → Bool) → ((x : A) → T (P x) → Q x ≡ false) → (l : List A) → T (every P l) → some Q l ≡ false
+  none-follows P Q f [] p = refl
+  none-follows P Q f (x ∷ l) p = rw (f x (and-left (P x) (every P l) p)) (none-follows P Q f l (and-right (P x) (every P l) p))
 
   -- two lists joined
   pub every-front : (P : A → Bool) (l m : List A) → T (every P (l ++ m)) → T (every P l)

@@ -2,7 +2,6 @@
 -- Assumes nothing.
 use mathlib.Core.Path.{_≡_, refl, sym, ap, _∙_}
 use Prim.Native.Nat.{ℕ, zero, suc, _+_, _*_}
-use native.Mathlib.Nat.{add-zero}
 use native.Mathlib.Omega.{arith}
 use lib.IntN.{ℤ, pos, negsuc, sucℤ, predℤ, negℤ, _+ℤ_, _-ℤ_, _*ℤ_, negℤ-negℤ, negℤ-+ℤ, +ℤ-idl, +ℤ-idr, +ℤ-assoc, +ℤ-comm, +ℤ-invr, sucℤ-+ℤ, predℤ-+ℤ, zero-*ℤ, sucℤ-*ℤ, predℤ-*ℤ, *ℤ-comm}
 

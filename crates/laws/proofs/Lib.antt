@@ -7,4 +7,5 @@ pub mod SearchLaws
 pub mod SizeLaws
 pub mod IntegerLaws
 pub mod WordLaws
+pub mod PassLaws
 pub mod ListLaws

@@ -1,12 +1,12 @@
 -- Laws of a text cut at a byte: where the byte stands first, and that what was joined is cut again.
 -- Assumes nothing.
-use Prim.Native.Nat.{ℕ, zero, suc, _+_, _≤_, _<_, zero-le}
+use Prim.Native.Nat.{ℕ, suc, zero-le}
 use native.Mathlib.Nat.{not-suc-le-zero, le-of-suc-le-suc, suc-add}
 use native.Mathlib.Omega.{arith}
 use mathlib.Core.Path.{_≡_, refl}
 use mathlib.Core.List.{List, [], _∷_, _++_}
 use borrow.Author.Tests.{eq-eqb, ne-eqb}
-use Rattle.laws.specs.Pieces.{Pieces, rest, piece, push, split, FirstAt}
+use Rattle.laws.specs.Pieces.{rest, piece, push, split, FirstAt}
 
 pub first-nowhere : (b : ℕ) → FirstAt b [] 0
 unfolding split

@@ -1,16 +1,14 @@
 -- Computed tests, and what a passed test says: conjunctions, every number below a bound, every choice of numbers below bounds.
 -- Assumes nothing.
-use mathlib.Core.Path.{_≡_, refl, sym, _∙_, ap, subst}
-use mathlib.Core.Bool.{Bool, true, false, cond, not, _&&_, _||_}
+use mathlib.Core.Path.{_≡_, refl, sym, subst}
+use mathlib.Core.Bool.{Bool, true, false, not, _&&_, _||_}
 use mathlib.Core.List.{List, [], _∷_, map}
 use mathlib.Core.Logic.{_≢_, _⊎_, inl, inr}
-use Prim.Native.Nat.{ℕ, zero, suc, _≤_, _<_}
+use Prim.Native.Nat.{ℕ, zero, suc, _<_}
 use native.Mathlib.Nat.{le-of-suc-le-suc, not-suc-le-zero}
-use native.Mathlib.Omega.{arith}
 use lib.Dec.{eqb, T}
-use lib.ListN.{length}
-use borrow.Author.Tests.{eqb-true, eqb-false, eq-eqb, ne-eqb}
-use Rattle.laws.specs.Words.{among, distinct, every}
+use borrow.Author.Tests.{eqb-false}
+use Rattle.laws.specs.Words.{among, distinct}
 
 pub T-true : (b : Bool) → T b → b ≡ true
 T-true true t = refl

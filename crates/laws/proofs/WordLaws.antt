@@ -1,17 +1,15 @@
 -- A loop that passes over a list computes a word of it: what the word says of the part that is left is what it says of the whole.
--- And what a word says of each member, and what the code's `&l[i..]` is. Assumes nothing.
-use mathlib.Core.Path.{_≡_, refl, sym, ap, _∙_, subst}
-use mathlib.Core.Bool.{Bool, true, false, not, _&&_, _||_}
-use mathlib.Core.List.{List, [], _∷_, _++_}
-use Prim.Native.Nat.{ℕ, zero, suc, _+_, _-_, _≤_, _<_, zero-le}
-use native.Mathlib.Nat.{le-of-suc-le-suc, not-suc-le-zero}
+-- And what the code's `&l[i..]` is.
+-- Assumes nothing.
+use mathlib.Core.Path.{_≡_, refl, sym, ap, _∙_}
+use mathlib.Core.Bool.{Bool, true, false}
+use mathlib.Core.List.{List, [], _∷_}
+use Prim.Native.Nat.{ℕ, _+_, _-_, _≤_, _<_, zero-le}
 use native.Mathlib.Numerals.{add-one}
 use native.Mathlib.Omega.{arith}
-use lib.Dec.{T}
 use lib.ListN.{length, getD, take, drop, length-drop, drop-of-length-le}
 use lib.Seq.{drop-cons, take-all}
-use Rattle.laws.specs.Words.{every, some, among, distinct}
-use Rattle.laws.proofs.TestLaws.{and-left, and-right}
+use Rattle.laws.specs.Words.{some, among, distinct}
 
 -- the code's part of a list from an index on
 pub part-from : {A : Type 0} (l : List A) (i : ℕ) → take (length l - i) (drop i l) ≡ drop i l
@@ -62,41 +60,3 @@ module _ {l : List ℕ} {i : ℕ} (w : Left distinct l i) where
 
   pub distinct-end : length l ≤ i → true ≡ distinct l
   distinct-end h = sym (left-end w h)
-
--- ---- members
-
-pub and-both : (a b : Bool) → T a → T b → T (a && b)
-and-both true b p q = q
-and-both false b p q = absurd p
-
-module _ {A : Type 0} (t : A → Bool) where
-  pub every-append : (l m : List A) → T (every t l) → T (every t m) → T (every t (l ++ m))
-  every-append [] m p q = q
-  every-append (x ∷ l) m p q =
-      and-both (t x) (every t (l ++ m)) (and-left (t x) (every t l) p) (every-append l m (and-right (t x) (every t l) p) q)
-
-  -- where each member passes, the one at an index does
-  pub every-at : (l : List A) (d : A) (i : ℕ) → T (every t l) → i < length l → T (t (getD l i d))
-  every-at [] d i p h = absurd (not-suc-le-zero h)
-  every-at (x ∷ l) d zero p h = and-left (t x) (every t l) p
-  every-at (x ∷ l) d (suc i) p h = every-at l d i (and-right (t x) (every t l) p) (le-of-suc-le-suc h)
-
-  -- where each member passes t, each passes a test u that follows
-  pub every-weaker : (u : A → Bool) → ((x : A) → T (t x) → T (u x)) → (l : List A) → T (every t l) → T (every u l)
-  every-weaker u f [] p = tt
-  every-weaker u f (x ∷ l) p =
-      and-both (u x) (every u l) (f x (and-left (t x) (every t l) p)) (every-weaker u f l (and-right (t x) (every t l) p))
-
-  -- where no member passes u, each passes a test t that holds where u fails
-  pub every-follows : (u : A → Bool) → ((x : A) → u x ≡ false → T (t x)) → (l : List A) → some u l ≡ false → T (every t l)
-  every-follows u f [] e = tt
-  every-follows u f (x ∷ l) e = follows (u x) refl (every-follows u f l) e
-    where
-      follows : (a : Bool) → u x ≡ a → (some u l ≡ false → T (every t l)) → (a || some u l) ≡ false → T (t x && every t l)
-      follows true p rest e = absurd (subst T e tt)
-      follows false p rest e = and-both (t x) (every t l) (f x p) (rest e)
-
-  -- where each member passes t, none passes a test u that fails where t holds
-  pub none-follows : (u : A → Bool) → ((x : A) → T (t x) → u x ≡ false) → (l : List A) → T (every t l) → some u l ≡ false
-  none-follows u f [] p = refl
-  none-follows u f (x ∷ l) p = rw (f x (and-left (t x) (every t l) p)) (none-follows u f l (and-right (t x) (every t l) p))

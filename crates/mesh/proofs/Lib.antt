@@ -1,4 +1,9 @@
 -- What is proved of tables.
+pub mod FitFaceLaws
+pub mod FittingLaws
+pub mod JudgeLaws
+pub mod VerdictLaws
+pub mod EntryLaws
 pub mod InsertLaws
 pub mod LowestLaws
 pub mod FaceLaws
@@ -10,4 +15,5 @@ pub mod RowBounds
 pub mod RecordCutLaws
 pub mod StoreLaws
 pub mod MeshCutLaws
-pub mod JudgeLaws
+pub mod AcceptedLaws
+pub mod Theorems

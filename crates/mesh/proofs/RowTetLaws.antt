@@ -6,18 +6,13 @@ use mathlib.Core.List.{List, [], _∷_, _++_, map}
 use Prim.Native.Nat.{ℕ, suc, _+_, _*_, _-_, _≤_, _<_, zero-le}
 use native.Mathlib.Nat.{le-refl}
 use native.Mathlib.Omega.{arith}
-use lib.Dec.{eqb, eqb→eq}
+use lib.Dec.{eqb}
 use lib.ListN.{length, getD, drop, length-drop}
 use lib.Seq.{drop-cons}
-use Rattle.laws.proofs.TestLaws.{at-below}
 use Rattle.solids.specs.Solids.{Tet, onTet, at}
-use Rattle.solids.specs.Rows.{hexRows, rowPlaces, rowPlace, rowTets}
+use Rattle.solids.specs.Rows.{rowPlaces, rowPlace, rowTets}
+use Rattle.solids.proofs.TableLaws.{row-length}
 use Rattle.mesh.specs.BlockLoops.{rowTet, rowTetsAt}
-
--- 64 rows of 24 places
-row-length : (r : ℕ) → r < 64 → length (rowPlaces r) ≡ 24
-unfolding rowPlaces hexRows
-row-length r h = eqb→eq (length (rowPlaces r)) 24 (at-below 64 (λ k. eqb (length (rowPlaces k)) 24) tt r h)
 
 -- four places more
 four-places : (l : List ℕ) (j : ℕ) → j + 4 ≤ length l → drop j l ≡ getD l j 0 ∷ getD l (j + 1) 0 ∷ getD l (j + 2) 0 ∷ getD l (j + 3) 0 ∷ drop (j + 4) l

@@ -1,5 +1,7 @@
 -- The page's section "Tables and numbers", and its orders of cutting and of the sign report.
 pub mod Judge
+pub mod JudgeLoops
 pub mod Cutting
-pub mod BlockLoops
 pub mod Signs
+pub mod BlockLoops
+pub mod FitLoops

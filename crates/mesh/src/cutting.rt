@@ -82,3 +82,11 @@ pub fn cut_all(table: &[u16], n: usize, out: &mut [u16])
         k += 1;
     }
 }
+
+// How many numbers the tetrahedra take.
+pub fn numbers_of(count: usize) -> usize
+    requires { ⌜ count ≤ 6144 ⌝ }
+    ensures { λ r. ⌜ r ≡ tetWidth * count ⌝ }
+{
+    TET * count
+}

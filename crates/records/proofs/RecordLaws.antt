@@ -12,8 +12,9 @@ use lib.ListN.{length, getD, take, drop, length-append, length-take, length-drop
 use lib.Seq.{take-all, drop-drop, drop-cons, drop-length, getD-take, getD-drop, getD-at, length-take-le}
 use borrow.Author.Tests.{eq-eqb, ne-eqb, eqb-true, eqb-false, ltb-false, le-ltb, not-false}
 use Rattle.laws.specs.Words.{every, some, distinct}
-use Rattle.laws.proofs.TestLaws.{T-true, true-T, and-left, and-right}
-use Rattle.laws.proofs.WordLaws.{part-from, and-both, every-append, every-at, every-follows, every-weaker, none-follows}
+use Rattle.laws.proofs.TestLaws.{T-true, true-T, and-left, and-right, and-both}
+use Rattle.laws.proofs.WordLaws.{part-from}
+use Rattle.laws.proofs.EveryLaws.{every-append, every-index, every-follows, every-implies, none-follows}
 use Rattle.faults.specs.declared.Fault.{Fault}
 use Rattle.faults.specs.declared.Fault.the-variants.{Kind, Vertex, Spare, Repeat}
 use Rattle.faults.specs.declared.Finding.{Finding}
@@ -224,7 +225,7 @@ module _ (limit : ℕ) (r : List ℕ) where
         wide = f .wide;
         kind = f .kind;
         apart = f .apart;
-        positive = every-weaker (isNumber limit) (ltb 0) (λ v h. and-left (ltb 0 v) (leb v limit) h) (usedOf r) (f .inside);
+        positive = every-implies (isNumber limit) (ltb 0) (λ v h. and-left (ltb 0 v) (leb v limit) h) (usedOf r) (f .inside);
       }
 
   -- at each corner's place stands a vertex number between 1 and the limit
@@ -232,7 +233,7 @@ module _ (limit : ℕ) (r : List ℕ) where
   clean-corner e zero l h = absurd (not-suc-le-zero l)
   clean-corner e (suc i) l h =
       rw (corner-used r (suc i) h)
-      (every-at (isNumber limit) (usedOf r) 0 i (clean-faultless e .inside) (rw (used-length r (clean-whole e)) h))
+      (every-index (isNumber limit) (usedOf r) 0 i (clean-faultless e .inside) (rw (used-length r (clean-whole e)) h))
 
 -- ---- the records of a table
 

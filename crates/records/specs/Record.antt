@@ -2,7 +2,7 @@
 -- Nothing outside this file knows the width of a record or where a field stands.
 use mathlib.Core.Bool.{Bool, cond, not, _&&_, _||_}
 use mathlib.Core.List.{List, [], _∷_, _++_}
-use Prim.Native.Nat.{ℕ, zero, suc, _*_}
+use Prim.Native.Nat.{ℕ, zero, suc, _*_, _/_}
 use lib.Dec.{eqb, ltb}
 use lib.ListN.{length, getD, take, drop}
 use Rattle.laws.specs.Words.{some, distinct}
@@ -66,6 +66,10 @@ recordFinding limit r =
     (cond (some notZero (spareOf r)) (Found Spare)
     (cond (not (distinct (usedOf r))) (Found Repeat)
     Clean)))
+
+-- how many whole records a table holds
+unfoldable pub recordCount : List ℕ → ℕ
+recordCount t = length t / width
 
 -- the record k of a table, from 0
 unfoldable pub recordAt : List ℕ → ℕ → List ℕ

@@ -1,7 +1,7 @@
 // The element record: its fields, and how it is judged. The definitions stand in specs/, what is proved of them in proofs/Theorems.antt.
 ghost use mathlib.Core.Path.{_≡_};
 ghost use Rattle.laws.specs.Words.{some, among, distinct};
-ghost use Rattle.records.specs.Record.{kindOf, isKind, solidOf, cornerAt, strayVertex, notZero, recordFinding, recordAt};
+ghost use Rattle.records.specs.Record.{kindOf, isKind, solidOf, cornerAt, strayVertex, notZero, recordFinding, recordCount, recordAt};
 use faults::Fault;
 use faults::Finding;
 use solids::Place;
@@ -55,6 +55,13 @@ pub fn corner(element: &[u16], place: Place) -> Vertex
         return Vertex(0);
     }
     Vertex(element[at])
+}
+
+// How many whole records a table holds.
+pub fn record_count(table: &[u16]) -> usize
+    ensures { λ r. ⌜ r ≡ recordCount (now (table .entry)) ⌝ }
+{
+    table.len() / WIDTH
 }
 
 // The record k of a table, from 0; where the table ends before it does, what there is of it.

@@ -1,16 +1,15 @@
 -- How many tetrahedra a cut has: as many as the page says for an element, and at most six for each element of a mesh.
 -- Assumes nothing.
 use mathlib.Core.Path.{_≡_, refl, sym, _∙_, ap}
-use mathlib.Core.Bool.{Bool, true, false, cond, _&&_}
-use mathlib.Core.List.{List, [], _∷_, _++_, map}
-use Prim.Native.Nat.{ℕ, zero, suc, _+_, _*_, _≤_, zero-le}
-use native.Mathlib.Nat.{le-refl}
+use mathlib.Core.Bool.{Bool, true, false, cond}
+use mathlib.Core.List.{List, [], _∷_, map}
+use Prim.Native.Nat.{ℕ, suc, _*_, _≤_, zero-le}
 use native.Mathlib.Omega.{arith}
 use lib.Dec.{eqb, T, eqb→eq, lit≤}
 use lib.ListN.{length, length-append, length-map}
 use Rattle.laws.specs.Words.{count, every, gather}
 use Rattle.solids.specs.Solids.{Solid, tetrahedron, pyramid, prism, hexahedron, Tet, Element, element, opposite, onTet, ofTet}
-use Rattle.solids.specs.Cut.{first, bitsOf, through, howMany, written, upTo, insert, ascending, inOrder, cut, cutMesh}
+use Rattle.solids.specs.Cut.{first, through, howMany, written, upTo, insert, ascending, inOrder, cut, cutMesh}
 use Rattle.solids.specs.Fit.{proper}
 use Rattle.laws.proofs.TestLaws.{and-left, and-right}
 use Rattle.solids.proofs.RenamingLaws.{bitsAt}

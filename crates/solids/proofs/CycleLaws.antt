@@ -1,21 +1,19 @@
 -- The cut of a face and of its cycle read backwards: the same triangles, reversed.
 -- Assumes nothing.
-use mathlib.Core.Path.{_≡_, refl, sym, _∙_, ap, ap₂, subst}
-use mathlib.Core.Bool.{Bool, true, false, cond, not, _&&_, _||_}
-use mathlib.Core.List.{List, [], _∷_, _++_, map}
+use mathlib.Core.Path.{_≡_, refl, sym, _∙_, ap, subst}
+use mathlib.Core.Bool.{Bool, true, false, cond, _||_}
 use mathlib.Core.Logic.{_⊎_, inl, inr}
-use Prim.Native.Nat.{ℕ, zero, suc, _+_, _≤_, _<_}
+use Prim.Native.Nat.{ℕ, _+_}
 use native.Mathlib.Omega.{arith}
 use lib.Dec.{eqb, T}
-use Rattle.laws.specs.Words.{every, among}
-use Rattle.solids.specs.Solids.{Face, three, four, Tri, tri, ofFace, holds}
+use Rattle.solids.specs.Solids.{Face, three, four, Tri, tri, holds}
 use Rattle.solids.specs.Rotations.{eqFace, sameFace}
-use Rattle.solids.specs.Cut.{turned, turns, lowestFirst, halves, cutFace}
+use Rattle.solids.specs.Cut.{turned, lowestFirst, halves, cutFace}
 use Rattle.solids.specs.Fit.{backFace}
 use Rattle.solids.specs.Surface.{back, sameTri, times}
 use Rattle.laws.proofs.TestLaws.{or-cases}
 use Rattle.solids.proofs.WrittenLaws.{Apart, Least, first, second, third, fourth, least}
-use Rattle.solids.proofs.SideLaws.{Same, s0, s1, s2, same-right, same-back, same-test, test-same, bool-iff}
+use Rattle.solids.proofs.SideLaws.{Same, s1, same-right, same-back, same-test, test-same, bool-iff}
 use Rattle.solids.proofs.TurnLaws.{turns-0, turns-1, turns-2, turns-3, cycle-apart, eqFace→eq}
 
 abbrev pub FaceApart : Face ℕ → Type 0

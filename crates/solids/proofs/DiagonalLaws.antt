@@ -1,13 +1,12 @@
 -- What a program compares: the diagonal a c of the face a b c d is cut where the lower of a and c is below the lower of b and d.
 -- Assumes nothing.
-use mathlib.Core.Path.{_≡_, refl, sym, _∙_, ap}
-use mathlib.Core.Bool.{Bool, true, false, _||_}
-use Prim.Native.Nat.{ℕ, _<_, _≤_, min}
+use mathlib.Core.Path.{_≡_, refl, _∙_, ap}
+use Prim.Native.Nat.{ℕ, min}
 use native.Mathlib.Omega.{arith}
-use lib.Dec.{eqb, ltb}
+use lib.Dec.{ltb}
 use borrow.Author.Tests.{eq-eqb, ne-eqb, lt-ltb, le-ltb}
-use Rattle.solids.specs.Solids.{Face, four}
-use Rattle.solids.specs.Cut.{turned, turns, lowestFirst, onDiagonal}
+use Rattle.solids.specs.Solids.{four}
+use Rattle.solids.specs.Cut.{turned, lowestFirst, onDiagonal}
 use Rattle.solids.proofs.WrittenLaws.{Apart, Least, first, second, third, fourth, least}
 use Rattle.solids.proofs.TurnLaws.{turns-0, turns-1, turns-2, turns-3}
 

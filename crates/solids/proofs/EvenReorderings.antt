@@ -1,12 +1,11 @@
 -- The twelve even reorderings of a tetrahedron; the written form is one of them.
 -- Assumes nothing.
-use mathlib.Core.Path.{_≡_, refl}
-use mathlib.Core.Bool.{Bool, true, false, cond, _&&_}
-use mathlib.Core.List.{List, [], _∷_, _++_, map}
+use mathlib.Core.Bool.{Bool, true, _&&_}
+use mathlib.Core.List.{List, [], _∷_, _++_}
 use Prim.Native.Nat.{ℕ}
 use lib.Dec.{eqb, T}
 use Rattle.laws.specs.Words.{every, gather, lowest}
-use Rattle.solids.specs.Solids.{Tet, tet, onTet}
+use Rattle.solids.specs.Solids.{Tet, tet}
 use Rattle.solids.specs.Cut.{firstLowest, secondLowest, written}
 use Rattle.laws.proofs.TestLaws.{and-left, and-right}
 use Rattle.laws.proofs.EveryLaws.{every-front, every-rest}

@@ -1,22 +1,23 @@
 -- Facts of one element that the mesh needs.
 -- Assumes nothing.
 use mathlib.Core.Path.{_≡_, refl, sym, _∙_, ap, ap₂, subst}
-use mathlib.Core.Bool.{Bool, true, false, cond, not, _&&_, _||_}
-use mathlib.Core.List.{List, [], _∷_, _++_, map, List·Memᴰ, List·Memᴰ·cases-cons, List·Memᴰ·not-nil, Memᴰ·of-map}
+use mathlib.Core.Bool.{Bool, true, false, cond, _&&_, _||_}
+use mathlib.Core.List.{List, [], _∷_, map, List·Memᴰ, Memᴰ·of-map}
 use mathlib.Core.Logic.{_⊎_, inl, inr, _≢_}
-use Prim.Native.Nat.{ℕ, zero, suc, _+_, _-_, _≤_, _<_}
+use Prim.Native.Nat.{ℕ, zero, suc, _+_, _≤_, _<_}
 use native.Mathlib.Nat.{le-of-suc-le-suc, not-suc-le-zero}
 use native.Mathlib.Omega.{arith}
 use lib.Dec.{eqb, T, eqb→eq, eqb-refl, ltb→lt}
+use borrow.Author.Tests.{ne-eqb}
 use lib.ListN.{length, getD}
-use Rattle.laws.specs.Words.{gather, every, some, among, distinct, count}
-use Rattle.solids.specs.Solids.{Solid, tetrahedron, pyramid, prism, hexahedron, Face, three, four, Tri, tri, Tet, tet, Element, element, corners, faces, at, onTri, onFace, ofFace, ofTri, holds, facesOf}
+use Rattle.laws.specs.Words.{gather, every, among, distinct, count}
+use Rattle.solids.specs.Solids.{Solid, tetrahedron, pyramid, prism, hexahedron, Face, three, four, Tri, tri, tet, element, corners, faces, at, onTri, onFace, ofFace, ofTri, holds, facesOf}
 use Rattle.solids.specs.Cut.{turned, turns, halves, cutFace, lowestFirst, first, cut}
 use Rattle.solids.specs.Fit.{sameSet}
 use Rattle.solids.specs.Surface.{sides, sameTri, times, owners, within}
 use Rattle.laws.proofs.TestLaws.{and-left, and-right, T-true, true-T, not-among-cons, distinct-cons}
 use Rattle.laws.proofs.EveryLaws.{every-at, every-implies, every-map}
-use Rattle.solids.proofs.RenamingLaws.{apart-on, eqb-on}
+use Rattle.solids.proofs.RenamingLaws.{apart-on}
 use Rattle.solids.proofs.NumberingLaws.{number, number-inj, inside}
 use Rattle.solids.proofs.ShapeLaws.{shape, Proper, faces-f, faces-inside, at-f}
 use Rattle.solids.proofs.HalfLaws.{allHalves, ways-of, at-half}
@@ -24,7 +25,7 @@ use Rattle.solids.proofs.SideLaws.{Same, s0, s1, s2, turn, same-sym, te
 use Rattle.solids.proofs.ClosedElement.{owners-shape, within-same}
 use Rattle.solids.proofs.TurnLaws.{ofFour, apartFaces}
 use Rattle.solids.proofs.RelistedLaws.{among-on}
-use Rattle.solids.proofs.CycleLaws.{FaceApart, next, holds-next}
+use Rattle.solids.proofs.CycleLaws.{FaceApart, holds-next}
 
 -- corners of an element
 at-among : (vs : List ℕ) (p : ℕ) → T (inside (length vs) p) → T (among (at vs p) vs)
@@ -128,14 +129,20 @@ same-apart (s0 p) h = subst Apart₃ (sym p) h
 same-apart {t} (s1 p) h = subst Apart₃ (sym p) (turn-apart₃ t h)
 same-apart {t} (s2 p) h = subst Apart₃ (sym p) (turn-apart₃ (turn t) (turn-apart₃ t h))
 
-apart₃-on : (f : ℕ → ℕ) → ((p q : ℕ) → f p ≡ f q → p ≡ q) → (u : Tri ℕ) → T (distinct (ofTri u)) → Apart₃ (onTri f u)
-apart₃-on f inj (tri a b c) h =
+pub distinct-apart₃ : (a b c : ℕ) → T (distinct (ofTri (tri a b c))) → TriApart a b c
+distinct-apart₃ a b c h =
     let u = distinct-cons a (b ∷ c ∷ []) h in
     let v = distinct-cons b (c ∷ []) (u .1) in
     let ab = not-among-cons a b (c ∷ []) (u .0) in
-    let ac = not-among-cons a c [] (ab .1) in
-    let bc = not-among-cons b c [] (v .0) in
-    record { ab = λ e. ab .0 (inj a b e); ac = λ e. ac .0 (inj a c e); bc = λ e. bc .0 (inj b c e) }
+    record { ab = ab .0; ac = not-among-cons a c [] (ab .1) .0; bc = not-among-cons b c [] (v .0) .0 }
+
+pub apart₃-distinct : (t : Tri ℕ) → Apart₃ t → T (distinct (ofTri t))
+apart₃-distinct (tri a b c) h = simp (ne-eqb a b (h .ab), ne-eqb a c (h .ac), ne-eqb b c (h .bc)) tt
+
+apart₃-on : (f : ℕ → ℕ) → ((p q : ℕ) → f p ≡ f q → p ≡ q) → (u : Tri ℕ) → T (distinct (ofTri u)) → Apart₃ (onTri f u)
+apart₃-on f inj (tri a b c) h =
+    let u = distinct-apart₃ a b c h in
+    record { ab = λ e. u .ab (inj a b e); ac = λ e. u .ac (inj a c e); bc = λ e. u .bc (inj b c e) }
 
 module _ (s : Solid) (vs : List ℕ) (h : Proper s vs) where
   inj : (p q : ℕ) → number vs p ≡ number vs q → p ≡ q

@@ -4,12 +4,11 @@ use mathlib.Core.Path.{_≡_, refl, sym, _∙_, ap, subst}
 use mathlib.Core.Bool.{Bool, true, false, cond, _&&_}
 use mathlib.Core.List.{List, [], _∷_, map}
 use Prim.Native.Nat.{ℕ}
-use lib.Dec.{eqb, T, eqb→eq}
-use lib.ListN.{length}
+use lib.Dec.{T, eqb→eq}
 use lib.IntN.{ℤ, pos, negsuc, _+ℤ_, +ℤ-assoc, +ℤ-comm}
-use Rattle.laws.specs.Words.{every, among}
-use Rattle.solids.specs.Solids.{Solid, Tet, tet, Element, element, corners, at, onTet, ofTet}
-use Rattle.solids.specs.Cut.{placeOf, first, written, upTo, insert, ascending, inOrder, cut}
+use Rattle.laws.specs.Words.{every}
+use Rattle.solids.specs.Solids.{Solid, Tet, tet, element, corners, onTet, ofTet}
+use Rattle.solids.specs.Cut.{placeOf, first, written, upTo, insert, ascending}
 use Rattle.solids.specs.Reference.{volumeOn, positive, referenceVolume, addUp, standing, Filled}
 use Rattle.laws.proofs.TestLaws.{and-both, and-left, and-right}
 use Rattle.solids.proofs.NumberingLaws.{number, number-inj, inside, at-number, placeOf-at}

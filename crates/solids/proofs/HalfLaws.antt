@@ -1,17 +1,17 @@
 -- Only the diagonal of a far face counts, and not from which of its ends it is cut: 64 shapes instead of 512.
 -- Assumes nothing.
-use mathlib.Core.Path.{_≡_, refl, sym, _∙_, ap, ap₂, subst}
-use mathlib.Core.Bool.{Bool, true, false, cond, not, _&&_, _||_}
-use mathlib.Core.List.{List, [], _∷_, _++_, map, map-map}
-use Prim.Native.Nat.{ℕ, zero, suc, _+_, _≤_, _<_}
+use mathlib.Core.Path.{_≡_, refl, _∙_, ap}
+use mathlib.Core.Bool.{Bool, true, false, cond, _&&_}
+use mathlib.Core.List.{List, [], _∷_, map, map-map}
+use Prim.Native.Nat.{ℕ, zero, suc, _<_}
 use native.Mathlib.Omega.{arith}
 use lib.Dec.{eqb, T, lit<}
 use Rattle.laws.specs.Words.{lowest}
-use Rattle.solids.specs.Solids.{Solid, tetrahedron, pyramid, prism, hexahedron, Face, three, four, Tri, tri, Tet, Element, element, corners, onTet, onTri, onFace}
+use Rattle.solids.specs.Solids.{Solid, tetrahedron, pyramid, prism, hexahedron, Face, three, four, Tri, tri, Tet, element, corners, onTet}
 use Rattle.solids.specs.Cut.{first, inOrder, cut, turned, halves}
-use Rattle.solids.specs.Surface.{sameTri, times}
+use Rattle.solids.specs.Surface.{times}
 use Rattle.laws.proofs.TestLaws.{and-left, and-right, below, choices, at-choices}
-use Rattle.solids.proofs.RenamingLaws.{asked, apart, same-places, cutsAt}
+use Rattle.solids.proofs.RenamingLaws.{asked, apart, same-places}
 use Rattle.solids.proofs.NumberingLaws.{number, number-inj, at-place}
 use Rattle.solids.proofs.ShapeLaws.{far, shape, Proper, turnsOf, first-inside, cut-shape, allShapes, at-shape}
 use Rattle.solids.proofs.RowLaws.{eqTets, eqTets→eq}

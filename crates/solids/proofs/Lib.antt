@@ -18,6 +18,7 @@ pub mod FaceFacts
 pub mod MeetLaws
 pub mod PairLaws
 pub mod MeshLaws
+pub mod RuleLaws
 pub mod OrderLaws
 pub mod DiagonalLaws
 pub mod HalfLaws

@@ -2,23 +2,22 @@
 -- Assumes nothing.
 use mathlib.Core.Path.{_≡_, refl, sym, _∙_, ap, ap₂, subst}
 use mathlib.Core.Bool.{Bool, true, false, cond, not, _&&_, _||_}
-use mathlib.Core.List.{List, [], _∷_, _++_, map, map-append, List·Memᴰ, List·Memᴰ·cases-cons, Memᴰ·of-map}
+use mathlib.Core.List.{List, [], _∷_, map, map-append}
 use mathlib.Core.Logic.{_⊎_, inl, inr}
-use Prim.Native.Nat.{ℕ, zero, suc, _+_, _-_, _≤_, _<_, min}
+use Prim.Native.Nat.{ℕ, zero, suc, _+_, _≤_, _<_}
 use native.Mathlib.Nat.{le-of-suc-le-suc, not-suc-le-zero}
 use native.Mathlib.Omega.{arith}
-use lib.Dec.{eqb, ltb, T, eqb→eq, ltb→lt}
+use lib.Dec.{eqb, T, eqb→eq, ltb→lt}
 use lib.ListN.{length, getD}
-use Rattle.laws.specs.Words.{count, gather, every, among, lowest, keep}
-use Rattle.solids.specs.Solids.{Solid, tetrahedron, pyramid, prism, hexahedron, Face, three, four, Tri, tri, Tet, tet, Element, element, corners, faces, at, onTri, onTet, onFace, ofFace, ofTri, holds, facesOf}
-use Rattle.solids.specs.Cut.{placeOf, turned, turns, halves, cutFace, inOrder, first, tetsOf, cut}
-use Rattle.solids.specs.Surface.{sides, back, sameTri, times, owners, skin, within}
+use Rattle.laws.specs.Words.{gather, every, lowest, keep}
+use Rattle.solids.specs.Solids.{Solid, tetrahedron, pyramid, prism, hexahedron, Face, three, four, Tri, element, corners, faces, at, onTri, onFace, ofFace, holds}
+use Rattle.solids.specs.Cut.{turned, halves, cutFace, first}
+use Rattle.solids.specs.Surface.{sides, back, sameTri, times, byRule, skin, within}
 use Rattle.laws.proofs.TestLaws.{or-cases, and-left, and-right, true-T}
 use Rattle.laws.proofs.EveryLaws.{count-append}
-use Rattle.solids.proofs.RenamingLaws.{cutsAt, asked, cuts-on, eqb-on, turned-on, halves-on}
-use Rattle.solids.proofs.NumberingLaws.{number, number-inj, inside, at-number, lowest-place}
-use Rattle.solids.proofs.ShapeLaws.{far, shape, Proper, turnsOf, faces-f, faces-inside, lowest-f, at-f, tets-shape, allShapes, at-shape}
-use Rattle.solids.proofs.SideLaws.{Same, s0, s1, s2, turn, same-back, times-same, owners-inOrder, times-on, sides-on, back-on, found}
+use Rattle.solids.proofs.RenamingLaws.{cutsAt, asked, eqb-on, turned-on, halves-on}
+use Rattle.solids.proofs.NumberingLaws.{number, number-inj, inside}
+use Rattle.solids.proofs.ShapeLaws.{far, shape, Proper, faces-f, faces-inside, lowest-f, at-f}
 use Rattle.solids.proofs.TurnLaws.{half}
 use Rattle.solids.proofs.HalfLaws.{allHalves, half-turned}
 
@@ -166,7 +165,7 @@ module _ (s : Solid) (vs : List ℕ) (h : Proper s vs) where
       Y : List (Tri ℕ)
       Y = cutsAt fs (map (wayOf (number vs)) fs)
 
-  pub skin-f : (t : Tri ℕ) → times t (skin (element s vs)) ≡ times t (map (onTri (number vs)) (skinAt s (first vs) (map (wayOf (number vs)) (far s (first vs)))))
+  pub skin-f : (t : Tri ℕ) → times t (skin (byRule (element s vs))) ≡ times t (map (onTri (number vs)) (skinAt s (first vs) (map (wayOf (number vs)) (far s (first vs)))))
   skin-f t =
       ap (λ (fs : List (Face ℕ)). times t (gather cutFace fs)) (faces-f s vs h)
       ∙ all-halves t (faces s)

@@ -1,53 +1,52 @@
 -- Two elements that fit: where they share a triangle's corners, they share a face, whose triangles are each other's reverses.
 -- Assumes nothing.
-use mathlib.Core.Path.{_≡_, refl, sym, _∙_, ap, ap₂, subst}
-use mathlib.Core.Bool.{Bool, true, false, cond, not, _&&_, _||_}
-use mathlib.Core.List.{List, [], _∷_, _++_, map, List·Memᴰ, List·Memᴰ·head, List·Memᴰ·tail}
-use mathlib.Core.Logic.{_⊎_, inl, inr, _≢_}
-use Prim.Native.Nat.{ℕ, zero, suc, _+_, _-_, _≤_, _<_}
+use mathlib.Core.Path.{_≡_, refl, sym, _∙_, ap, subst}
+use mathlib.Core.Bool.{Bool, true, false, cond, _&&_, _||_}
+use mathlib.Core.List.{List, [], _∷_, List·Memᴰ}
+use mathlib.Core.Logic.{_⊎_, inl, inr}
+use Prim.Native.Nat.{ℕ, suc}
 use native.Mathlib.Omega.{arith}
 use lib.Dec.{eqb, leb, T, eqb→eq, leb→le}
 use lib.ListN.{length}
 use Rattle.laws.specs.Words.{gather, every, some, among, keep}
-use Rattle.solids.specs.Solids.{Solid, Face, Tri, tri, Element, element, ofFace, ofTri, holds, facesOf, cornersOf, Edge, edge, ends, edgesOf}
+use Rattle.solids.specs.Solids.{Face, Tri, tri, Element, ofFace, ofTri, holds, facesOf, cornersOf, Edge, edge, ends, edgesOf}
 use Rattle.solids.specs.Rotations.{sameFace}
-use Rattle.solids.specs.Cut.{cutFace, cut}
-use Rattle.solids.specs.Fit.{proper, common, sameSet, hasEdge, backFace, fits}
-use Rattle.solids.specs.Surface.{back, times, owners, within, skin, Closed}
+use Rattle.solids.specs.Fit.{common, sameSet, hasEdge, backFace, fits}
+use Rattle.solids.specs.Surface.{back, times, Piece, Agree}
 use Rattle.laws.proofs.TestLaws.{or-cases, or-left, or-right, and-left, and-right, true-T}
 use Rattle.laws.proofs.EveryLaws.{some-at, among-every}
-use Rattle.solids.proofs.ShapeLaws.{Proper}
-use Rattle.solids.proofs.CycleLaws.{FaceApart, Cycle, test-cycle, times-across, holds-across, back-back}
-use Rattle.solids.proofs.ClosedElement.{closed}
-use Rattle.solids.proofs.FaceFacts.{TriApart, Apart₃, owned, face-apart, face-corners, face-once}
+use Rattle.solids.proofs.CycleLaws.{Cycle, test-cycle, holds-across, back-back}
+use Rattle.solids.proofs.FaceFacts.{TriApart, Apart₃}
 
--- what a face shared by two elements is
-pub record Shared (e x : Element) : Type 0 where
+-- what a face shared by two pieces is
+pub record Shared (p q : Piece) : Type 0 where
   pub mine : Face ℕ
   pub theirs : Face ℕ
-  pub in-mine : List·Memᴰ mine (facesOf e)
-  pub in-theirs : List·Memᴰ theirs (facesOf x)
-  pub across : (t : Tri ℕ) → times t (cutFace theirs) ≡ times (back t) (cutFace mine)
+  pub in-mine : List·Memᴰ mine (facesOf (p .whole))
+  pub in-theirs : List·Memᴰ theirs (facesOf (q .whole))
+  pub across : (t : Tri ℕ) → times t (q .trianglesOn theirs) ≡ times (back t) (p .trianglesOn mine)
   pub same : (v : ℕ) → holds v theirs ≡ holds v mine
-  pub all : (v : ℕ) → T (among v (cornersOf e)) → T (among v (cornersOf x)) → T (holds v mine)
+  pub all : (v : ℕ) → T (among v (cornersOf (p .whole))) → T (among v (cornersOf (q .whole))) → T (holds v mine)
 
-shared-sym : {e x : Element} → Shared e x → Shared x e
-shared-sym h = record {
+shared-sym : {p q : Piece} → Shared p q → Shared q p
+shared-sym {p} h = record {
   mine = h .theirs;
   theirs = h .mine;
   in-mine = h .in-theirs;
   in-theirs = h .in-mine;
-  across = λ t. ap (λ (u : Tri ℕ). times u (cutFace (h .mine))) (sym (back-back t)) ∙ sym (h .across (back t));
+  across = λ t. ap (λ (u : Tri ℕ). times u (p .trianglesOn (h .mine))) (sym (back-back t)) ∙ sym (h .across (back t));
   same = λ v. sym (h .same v);
   all = λ v p q. subst T (sym (h .same v)) (h .all v q p);
 }
 
--- two elements share a face as soon as they share the three corners of a triangle
-abbrev pub Meet : Element → Element → Type 0
-Meet e x = (t : Tri ℕ) → Apart₃ t → T (every (λ v. among v (cornersOf e)) (ofTri t)) → T (every (λ v. among v (cornersOf x)) (ofTri t)) → Shared e x
+-- two pieces share a face as soon as they share the three corners of a triangle
+abbrev pub Meet : Piece → Piece → Type 0
+Meet p q =
+    (t : Tri ℕ) → Apart₃ t → T (every (λ v. among v (cornersOf (p .whole))) (ofTri t)) → T (every (λ v. among v (cornersOf (q .whole))) (ofTri t))
+    → Shared p q
 
-pub meet-sym : (e x : Element) → Meet e x → Meet x e
-meet-sym e x m t h p q = shared-sym (m t h q p)
+pub meet-sym : (p q : Piece) → Meet p q → Meet q p
+meet-sym p q m t h a b = shared-sym (m t h b a)
 
 among-keep : (P : ℕ → Bool) (l : List ℕ) (v : ℕ) → T (among v l) → T (P v) → T (among v (keep P l))
 among-keep P [] v h p = absurd h
@@ -92,10 +91,16 @@ not-short a b c (y ∷ []) h p q r = h .ab (one (among-two a y y (twice a p)) �
 not-short a b c (y ∷ (z ∷ l)) h p q r = let k = leb→le (suc (suc (length l))) 1 r in omega arith
 
 -- from the test to the fact
-pub fits-meet : (e x : Element) → ((F : Face ℕ) → List·Memᴰ F (facesOf e) → FaceApart F) → T (fits e x) → Meet e x
+pub fits-meet : (u w : Piece) → Agree u w → T (fits (u .whole) (w .whole)) → Meet u w
 unfolding fits
-fits-meet e x apart f (tri a b c) h p q = go (or-cases short (two || whole) f)
+fits-meet u w agree f (tri a b c) h p q = go (or-cases short (two || whole) f)
   where
+    e : Element
+    e = u .whole
+
+    x : Element
+    x = w .whole
+
     l : List ℕ
     l = common e x
 
@@ -146,7 +151,7 @@ fits-meet e x apart f (tri a b c) h p q = go (or-cases short (two || whole) f)
         (among-two b m n (among-every (λ v. among v (m ∷ n ∷ [])) (common e x) all b in-b))
         (among-two c m n (among-every (λ v. among v (m ∷ n ∷ [])) (common e x) all c in-c))
 
-    face : (F : Face ℕ) × List·Memᴰ F (facesOf e) × T (sameSet (common e x) (ofFace F) && some (sameFace (backFace F)) (facesOf x)) → Shared e x
+    face : (F : Face ℕ) × List·Memᴰ F (facesOf e) × T (sameSet (common e x) (ofFace F) && some (sameFace (backFace F)) (facesOf x)) → Shared u w
     face g =
         let F = g .0 in
         let A : T (sameSet (common e x) (ofFace F)) = and-left (sameSet (common e x) (ofFace F)) (some (sameFace (backFace F)) (facesOf x)) (g .2) in
@@ -157,17 +162,17 @@ fits-meet e x apart f (tri a b c) h p q = go (or-cases short (two || whole) f)
           theirs = G .0;
           in-mine = g .1;
           in-theirs = G .1;
-          across = λ t. times-across t F (G .0) (apart F (g .1)) C;
+          across = agree F (G .0) (g .1) (G .1) (G .2);
           same = λ v. holds-across v F (G .0) C;
           all = λ v s t. among-every (λ w. among w (ofFace F)) (common e x) (and-left (every (λ w. among w (ofFace F)) (common e x)) (every (λ w. among w (common e x)) (ofFace F)) A) v (in-l v s t);
         }
 
-    go₂ : T two ⊎ T whole → Shared e x
+    go₂ : T two ⊎ T whole → Shared u w
     go₂ (inl k) =
         let y = some-at (λ E. sameSet (common e x) (ends E)) (gather edgesOf (facesOf e)) (and-left (hasEdge (common e x) e) (hasEdge (common e x) x) k) in
         absurd (no-edge (y .0) (y .2))
     go₂ (inr k) = face (some-at (λ F. sameSet (common e x) (ofFace F) && some (sameFace (backFace F)) (facesOf x)) (facesOf e) k)
 
-    go : T short ⊎ T (two || whole) → Shared e x
+    go : T short ⊎ T (two || whole) → Shared u w
     go (inl k) = absurd (not-short a b c (common e x) h in-a in-b k)
     go (inr k) = go₂ (or-cases two whole k)

@@ -5,12 +5,12 @@ use mathlib.Core.Path.{_≡_, refl, sym, _∙_, ap, ap₂, subst}
 use mathlib.Core.Bool.{Bool, true, false, cond, not, _&&_, _||_}
 use mathlib.Core.List.{List, [], _∷_, map}
 use mathlib.Core.Logic.{_≢_}
-use Prim.Native.Nat.{ℕ, zero, suc, _+_, _≤_, _<_, min}
-use native.Mathlib.Nat.{le-of-suc-le-suc, not-suc-le-zero, min-eq-left, min-eq-right}
+use Prim.Native.Nat.{ℕ, zero, suc, _+_, _≤_, _<_}
+use native.Mathlib.Nat.{le-of-suc-le-suc, not-suc-le-zero, min-eq-left}
 use native.Mathlib.Omega.{arith}
 use lib.Dec.{eqb, ltb, leb, T, ltb→lt, lt→ltb}
 use lib.ListN.{length, getD}
-use borrow.Author.Tests.{eqb-true, eqb-false, eq-eqb, ne-eqb, leb-true, leb-false, lt-ltb}
+use borrow.Author.Tests.{eqb-true, eq-eqb, ne-eqb, leb-true, leb-false}
 use Rattle.laws.specs.Words.{among, distinct, every, lowest}
 use Rattle.solids.specs.Solids.{Face, three, four, Tet, tet, ofTet, onFace, onTet, ofFace, at}
 use Rattle.solids.specs.Cut.{placeOf}

@@ -1,14 +1,13 @@
 -- Elements in another order: their blocks move, and nothing else. And a look at the page's samples of fitting (a check of the definition).
-use mathlib.Core.Path.{_≡_, refl, ap}
-use mathlib.Core.Bool.{Bool, true, false}
+use mathlib.Core.Path.{_≡_, refl}
+use mathlib.Core.Bool.{true, false}
 use mathlib.Core.List.{List, [], _∷_, _++_, map}
 use Prim.Native.Nat.{ℕ, zero, suc}
-use lib.Dec.{T}
 use lib.ListN.{getD}
 use Rattle.laws.specs.Words.{gather}
-use Rattle.solids.specs.Solids.{hexahedron, tetrahedron, Tet, Element, element}
+use Rattle.solids.specs.Solids.{hexahedron, tetrahedron, Element, element}
 use Rattle.solids.specs.Cut.{cut, cutMesh}
-use Rattle.solids.specs.Fit.{fits, proper, isOuter, outerFaces}
+use Rattle.solids.specs.Fit.{fits}
 
 -- the elements at the given indices, and the blocks at the same indices
 pub blocks-move : (es : List Element) (d : Element) (σ : List ℕ) → cutMesh (map (λ i. getD es i d) σ) ≡ gather (λ i. getD (map cut es) i (cut d)) σ

@@ -1,14 +1,14 @@
 -- The computed tests on the reference solids: every face runs counterclockwise, every tetrahedron of every shape and of every row is positive
 -- in all its even reorderings, and the tetrahedra add up.
 -- Assumes nothing.
-use mathlib.Core.Bool.{Bool, true, false, _&&_}
-use mathlib.Core.List.{List, [], _∷_, map}
+use mathlib.Core.Bool.{Bool, false, _&&_}
+use mathlib.Core.List.{List}
 use Prim.Native.Nat.{ℕ}
 use lib.Dec.{T, eqb}
-use lib.IntN.{ℤ, pos, negsuc, natAbs, _-ℤ_}
+use lib.IntN.{ℤ, pos, negsuc}
 use Rattle.laws.specs.Words.{every}
 use Rattle.volume.specs.Volume.{minus, minor, determinant, sixfold}
-use Rattle.solids.specs.Solids.{Solid, tetrahedron, pyramid, prism, hexahedron, Tet, tet, corners, faces, ofTet}
+use Rattle.solids.specs.Solids.{Solid, tetrahedron, pyramid, prism, hexahedron, Tet, corners, faces, ofTet}
 use Rattle.solids.specs.Rows.{hexRows, rowPlaces, rowTets}
 use Rattle.solids.specs.Reference.{volumeOn, positive, counterclockwise, referenceVolume, addUp}
 use Rattle.laws.proofs.TestLaws.{below}

@@ -1,23 +1,22 @@
 -- Corners listed in an order that a rotation gives: the cut is the same. From the tests on places to all vertex numbers.
 -- Assumes nothing.
 use mathlib.Core.Path.{_≡_, refl, sym, _∙_, ap, ap₂, subst}
-use mathlib.Core.Bool.{Bool, true, false, cond, not, _&&_, _||_}
-use mathlib.Core.List.{List, [], _∷_, _++_, map, map-map, List·Memᴰ, List·Memᴰ·cases-cons, List·Memᴰ·not-nil, Memᴰ·of-map}
-use mathlib.Core.Logic.{_⊎_, inl, inr}
-use Prim.Native.Nat.{ℕ, zero, suc, _+_, _≤_, _<_}
+use mathlib.Core.Bool.{Bool, true, not, _&&_, _||_}
+use mathlib.Core.List.{List, [], _∷_, map, map-map, List·Memᴰ, Memᴰ·of-map}
+use Prim.Native.Nat.{ℕ, zero, suc, _≤_, _<_}
 use native.Mathlib.Nat.{le-of-suc-le-suc, not-suc-le-zero}
 use native.Mathlib.Omega.{arith}
-use lib.Dec.{eqb, T, eqb→eq, ltb→lt, lit<}
+use lib.Dec.{eqb, T, eqb→eq, ltb→lt}
 use lib.ListN.{length, length-map, getD}
 use Rattle.laws.specs.Words.{every, among, distinct, lowest}
-use Rattle.solids.specs.Solids.{Solid, tetrahedron, pyramid, prism, hexahedron, Face, three, four, Tet, tet, Element, element, corners, faces, at, onFace, onTet, ofFace, ofTet}
+use Rattle.solids.specs.Solids.{Solid, Face, three, four, Tet, tet, element, corners, at, onFace, onTet, ofFace, ofTet}
 use Rattle.solids.specs.Rotations.{rotations, relisted}
 use Rattle.solids.specs.Cut.{placeOf, first, inOrder, cut}
 use Rattle.laws.proofs.TestLaws.{and-left, and-right, below}
 use Rattle.laws.proofs.EveryLaws.{every-map, map-agree}
 use Rattle.solids.proofs.RenamingLaws.{asked, apart, same-places, eqb-on}
-use Rattle.solids.proofs.NumberingLaws.{number, number-inj, inside, at-place, at-number, placeOf-at}
-use Rattle.solids.proofs.ShapeLaws.{far, shape, Proper, turnsOf, first-inside, at-f, lowest-f, cut-shape, allShapes, at-shape}
+use Rattle.solids.proofs.NumberingLaws.{number, number-inj, inside, at-place, placeOf-at}
+use Rattle.solids.proofs.ShapeLaws.{far, shape, Proper, first-inside, at-f, lowest-f}
 use Rattle.solids.proofs.RowLaws.{eqTets, eqTets→eq}
 use Rattle.solids.proofs.LocalTest.{lowest-at}
 use Rattle.solids.proofs.TurnLaws.{half, way, lookFor, matched, apartFaces, look-right}

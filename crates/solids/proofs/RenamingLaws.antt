@@ -1,19 +1,17 @@
 -- What an injective renaming leaves as it is.
 -- Assumes nothing.
 use mathlib.Core.Path.{_≡_, refl, sym, _∙_, ap, ap₂}
-use mathlib.Core.Bool.{Bool, true, false, cond, not, _&&_, _||_}
+use mathlib.Core.Bool.{Bool, true, false, cond, not}
 use mathlib.Core.List.{List, [], _∷_, _++_, map, map-append, map-map}
-use mathlib.Core.Logic.{_≢_}
-use Prim.Native.Nat.{ℕ, zero, suc, _+_, _≤_, _<_}
-use native.Mathlib.Omega.{arith}
+use Prim.Native.Nat.{ℕ, zero, suc}
 use lib.Dec.{eqb, T}
 use borrow.Author.Tests.{eqb-true, eqb-false, eq-eqb, ne-eqb}
-use Rattle.laws.specs.Words.{among, distinct, every, keep, count, gather}
-use Rattle.solids.specs.Solids.{Face, three, four, Tri, tri, Tet, tet, ofTet, onFace, onTri, onTet, ofFace, holds}
+use Rattle.laws.specs.Words.{distinct, every, keep, gather}
+use Rattle.solids.specs.Solids.{Face, three, four, Tri, tri, Tet, tet, ofTet, onFace, onTri, onTet, holds}
 use Rattle.solids.specs.Cut.{turned, turns, halves, cutFace, lowestFirst, onDiagonal, follow, written, ascending, inOrder}
 use Rattle.laws.proofs.TestLaws.{and-left, and-right, not-among-cons, distinct-cons}
 use Rattle.solids.proofs.AscendingLaws.{ascending-through}
-use Rattle.solids.proofs.WrittenLaws.{Apart, FApart, written-even}
+use Rattle.solids.proofs.WrittenLaws.{FApart, written-even}
 
 -- the triangles of faces that are turned by the given numbers
 abbrev pub cutsAt : List (Face ℕ) → List ℕ → List (Tri ℕ)

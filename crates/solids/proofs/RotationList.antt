@@ -1,7 +1,6 @@
 -- Each listed rotation is one, and there are as many as the page says.
 use mathlib.Core.Path.{_≡_, refl}
-use mathlib.Core.List.{List, [], _∷_, map}
-use Prim.Native.Nat.{ℕ}
+use mathlib.Core.List.{[], _∷_, map}
 use lib.Dec.{T}
 use lib.ListN.{length}
 use Rattle.laws.specs.Words.{every}

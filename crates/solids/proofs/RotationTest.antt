@@ -1,25 +1,19 @@
 -- Corners listed in an order that a rotation gives: the cut is the same.
 -- Assumes nothing.
-use mathlib.Core.Path.{_≡_, refl, sym, _∙_, ap, ap₂, subst}
-use mathlib.Core.Bool.{Bool, true, false, cond, not, _&&_, _||_}
-use mathlib.Core.List.{List, [], _∷_, _++_, map, map-map, List·Memᴰ, List·Memᴰ·cases-cons, List·Memᴰ·not-nil}
-use mathlib.Core.Logic.{_⊎_, inl, inr}
-use Prim.Native.Nat.{ℕ, zero, suc, _+_, _≤_, _<_}
-use native.Mathlib.Nat.{le-of-suc-le-suc, not-suc-le-zero}
-use native.Mathlib.Omega.{arith}
-use lib.Dec.{eqb, T, eqb→eq, ltb→lt, lit<}
-use lib.ListN.{length, length-map, getD}
-use Rattle.laws.specs.Words.{every, among, distinct, lowest}
-use Rattle.solids.specs.Solids.{Solid, tetrahedron, pyramid, prism, hexahedron, Face, three, four, Tet, tet, Element, element, corners, faces, at, onFace, onTet, ofFace, ofTet}
-use Rattle.solids.specs.Rotations.{rotations, relisted}
-use Rattle.solids.specs.Cut.{placeOf, first, inOrder, cut}
+use mathlib.Core.Bool.{Bool, _&&_}
+use mathlib.Core.List.{List, map}
+use Prim.Native.Nat.{ℕ, zero, suc}
+use lib.Dec.{eqb, T}
+use lib.ListN.{length}
+use Rattle.laws.specs.Words.{every, among, distinct}
+use Rattle.solids.specs.Solids.{Solid, tetrahedron, pyramid, prism, hexahedron, Face, Tet, corners, at, onFace, onTet, ofFace, ofTet}
+use Rattle.solids.specs.Cut.{inOrder}
 use Rattle.laws.proofs.TestLaws.{below}
-use Rattle.solids.proofs.RenamingLaws.{asked, apart, same-places, eqb-on}
-use Rattle.solids.proofs.NumberingLaws.{number, number-inj, inside, at-place, at-number, placeOf-at}
-use Rattle.solids.proofs.ShapeLaws.{far, shape, Proper, turnsOf, first-inside, at-f, lowest-f, cut-shape, allShapes, at-shape}
-use Rattle.solids.proofs.RowLaws.{eqTets, eqTets→eq}
-use Rattle.solids.proofs.LocalTest.{lowest-at}
-use Rattle.solids.proofs.TurnLaws.{half, way, lookFor, matched, apartFaces, look-right}
+use Rattle.solids.proofs.RenamingLaws.{apart}
+use Rattle.solids.proofs.NumberingLaws.{inside}
+use Rattle.solids.proofs.ShapeLaws.{far, shape}
+use Rattle.solids.proofs.RowLaws.{eqTets}
+use Rattle.solids.proofs.TurnLaws.{lookFor, matched, apartFaces}
 use Rattle.solids.proofs.HalfLaws.{allHalves}
 use Rattle.solids.proofs.RotationWords.{gen}
 

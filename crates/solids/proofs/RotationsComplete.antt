@@ -1,16 +1,15 @@
 -- The list of rotations is complete: whatever maps faces to faces and keeps their direction is in it. A search that antt computes,
 -- place by place, left off as soon as a whole face is mapped to none.
 -- Assumes nothing.
-use mathlib.Core.Path.{_≡_, refl, sym, _∙_, ap, ap₂, subst}
-use mathlib.Core.Bool.{Bool, true, false, not, _&&_, _||_}
+use mathlib.Core.Path.{_≡_, refl, sym, subst}
+use mathlib.Core.Bool.{Bool, true, false, not, _&&_}
 use mathlib.Core.List.{List, [], _∷_, _++_, append-nil, append-assoc, List·Memᴰ, Memᴰ·cast}
-use Prim.Native.Nat.{ℕ, zero, suc, _+_, _≤_, _<_}
-use native.Mathlib.Nat.{le-of-suc-le-suc, not-suc-le-zero}
+use Prim.Native.Nat.{ℕ, zero, suc}
 use native.Mathlib.Omega.{arith}
-use lib.Dec.{eqb, leb, T, eqb→eq, leb→le, ltb→lt, lt→ltb}
-use lib.ListN.{length, getD, List·getD-append}
+use lib.Dec.{eqb, leb, T, eqb→eq, leb→le, ltb→lt}
+use lib.ListN.{length, List·getD-append}
 use Rattle.laws.specs.Words.{every, some, distinct}
-use Rattle.solids.specs.Solids.{Solid, tetrahedron, pyramid, prism, hexahedron, Face, three, four, corners, faces, at, onFace, ofFace}
+use Rattle.solids.specs.Solids.{Solid, tetrahedron, pyramid, prism, hexahedron, Face, corners, faces, at, onFace, ofFace}
 use Rattle.solids.specs.Rotations.{sameFace, isReordering, keepsFaces, isRotation, rotations}
 use Rattle.laws.proofs.TestLaws.{and-left, and-right, below, at-below}
 use Rattle.laws.proofs.EveryLaws.{some-at, every-implies}

@@ -1,14 +1,13 @@
 -- The 64 rows agree with the rule.
 -- Assumes nothing.
 use mathlib.Core.Path.{_≡_, refl, sym, _∙_, ap, ap₂, subst}
-use mathlib.Core.Bool.{Bool, true, false, cond, not, _&&_, _||_}
-use mathlib.Core.List.{List, [], _∷_, _++_, map}
-use Prim.Native.Nat.{ℕ, zero, suc, _+_, _≤_, _<_}
+use mathlib.Core.Bool.{Bool, true, false, _&&_}
+use mathlib.Core.List.{List, [], _∷_, map}
+use Prim.Native.Nat.{ℕ}
 use lib.Dec.{eqb, T, eqb→eq}
-use lib.ListN.{length}
 use Rattle.laws.specs.Words.{every}
-use Rattle.solids.specs.Solids.{Solid, hexahedron, Tet, tet, Element, element, at, opposite, onTet, ofTet}
-use Rattle.solids.specs.Cut.{first, bitsOf, inOrder, cut}
+use Rattle.solids.specs.Solids.{hexahedron, Tet, tet, element, at, opposite, onTet, ofTet}
+use Rattle.solids.specs.Cut.{first, inOrder, cut}
 use Rattle.solids.specs.Surface.{eqTet}
 use Rattle.solids.specs.Rows.{hexRows, rowPlaces, rowTets, rowNumber, cutByRow}
 use Rattle.laws.proofs.TestLaws.{and-left, and-right}

@@ -1,7 +1,6 @@
 -- The cut of each sample is the one that the page gives.
 use mathlib.Core.Path.{_≡_, refl}
-use mathlib.Core.List.{List, map}
-use Rattle.solids.specs.Solids.{Tet}
+use mathlib.Core.List.{map}
 use Rattle.solids.specs.Cut.{cut}
 use Rattle.solids.specs.Samples.{Sample, samples}
 

@@ -1,18 +1,17 @@
 -- The cut in places: all that it reads of the vertex numbers is the lowest place and the turns of the far faces.
 -- Assumes nothing.
-use mathlib.Core.Path.{_≡_, refl, sym, _∙_, ap, ap₂, subst}
-use mathlib.Core.Bool.{Bool, true, false, cond, not, _&&_, _||_}
-use mathlib.Core.List.{List, [], _∷_, _++_, map}
-use Prim.Native.Nat.{ℕ, zero, suc, _+_, _≤_, _<_}
-use native.Mathlib.Omega.{arith}
-use lib.Dec.{eqb, ltb, T, lit<, eqb→eq}
+use mathlib.Core.Path.{_≡_, sym, _∙_, ap, ap₂, subst}
+use mathlib.Core.Bool.{Bool, true, false, cond, not}
+use mathlib.Core.List.{List, [], _∷_, map}
+use Prim.Native.Nat.{ℕ, suc, _<_}
+use lib.Dec.{eqb, T, lit<, eqb→eq}
 use lib.ListN.{length}
-use Rattle.laws.specs.Words.{among, distinct, every, keep, count, gather, lowest}
-use Rattle.solids.specs.Solids.{Solid, tetrahedron, pyramid, prism, hexahedron, Face, three, four, Tri, tri, Tet, tet, Element, element, corners, faces, at, opposite, onFace, onTri, onTet, ofFace, ofTet, holds, facesOf}
-use Rattle.solids.specs.Cut.{placeOf, turned, turns, lowestFirst, cutFace, onDiagonal, follow, toFirst, five, inOrder, lowestOf, farFaces, fan, first, bitsOf, through, fiveOf, tetsOf, cut}
+use Rattle.laws.specs.Words.{distinct, every, keep, count, gather, lowest}
+use Rattle.solids.specs.Solids.{Solid, tetrahedron, pyramid, prism, hexahedron, Face, three, four, Tet, element, corners, faces, at, opposite, onFace, onTet, ofFace, ofTet, holds}
+use Rattle.solids.specs.Cut.{lowestFirst, cutFace, onDiagonal, follow, toFirst, five, inOrder, farFaces, fan, first, bitsOf, fiveOf, tetsOf, cut}
 use Rattle.solids.specs.Fit.{proper}
 use Rattle.laws.proofs.TestLaws.{and-left, and-right, below, choices, at-choices}
-use Rattle.solids.proofs.RenamingLaws.{cutsAt, bitsAt, asked, keep-on, cuts-on, bits-on, follows-on, apart}
+use Rattle.solids.proofs.RenamingLaws.{cutsAt, bitsAt, asked, keep-on, cuts-on, bits-on, follows-on}
 use Rattle.solids.proofs.NumberingLaws.{number, number-inj, inside, at-place, at-number, faces-number, tets-number, lowest-place}
 
 -- the faces, in places, that do not hold the place a

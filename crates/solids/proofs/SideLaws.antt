@@ -1,17 +1,16 @@
 -- How many tetrahedra own a side: what does not change it.
 -- Assumes nothing.
-use mathlib.Core.Path.{_≡_, refl, sym, _∙_, ap, ap₂, subst}
-use mathlib.Core.Bool.{Bool, true, false, cond, not, _&&_, _||_}
+use mathlib.Core.Path.{_≡_, refl, sym, _∙_, ap, ap₂}
+use mathlib.Core.Bool.{Bool, true, false, cond, _&&_, _||_}
 use mathlib.Core.List.{List, [], _∷_, _++_, map, map-append}
 use mathlib.Core.Logic.{_⊎_, inl, inr}
-use Prim.Native.Nat.{ℕ, zero, suc, _+_, _≤_, _<_}
-use native.Mathlib.Nat.{add-assoc}
+use Prim.Native.Nat.{ℕ, _+_}
 use native.Mathlib.Omega.{arith}
 use lib.Dec.{eqb, T, eqb→eq, eqb-refl}
-use Rattle.laws.specs.Words.{count, gather, every, among, lowest}
-use Rattle.solids.specs.Solids.{Face, three, four, Tri, tri, Tet, tet, onTri, onTet, onFace, ofTet}
-use Rattle.solids.specs.Cut.{firstLowest, secondLowest, written, upTo, insert, ascending, inOrder}
-use Rattle.solids.specs.Surface.{sides, back, eqTri, sameTri, times, owners, within}
+use Rattle.laws.specs.Words.{gather, every, lowest}
+use Rattle.solids.specs.Solids.{Tri, tri, Tet, tet, onTri, onTet, ofTet}
+use Rattle.solids.specs.Cut.{firstLowest, secondLowest, written, upTo, insert, inOrder}
+use Rattle.solids.specs.Surface.{sides, back, eqTri, sameTri, times, owners}
 use Rattle.laws.proofs.TestLaws.{or-cases, or-left, or-right, and-left, and-right, T-true, true-T}
 use Rattle.laws.proofs.EveryLaws.{count-append, count-cong}
 use Rattle.solids.proofs.WrittenLaws.{either}

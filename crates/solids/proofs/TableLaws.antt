@@ -81,6 +81,16 @@ rows-fit : T (every rowFits hexRows)
 unfolding hexRows
 rows-fit = tt
 
+abbrev longRow : ℕ → Bool
+longRow r = eqb (length (rowPlaces r)) 24
+
+rows-long : T (below 64 longRow)
+unfolding rowPlaces hexRows
+rows-long = tt
+
+pub row-length : (r : ℕ) → r < 64 → length (rowPlaces r) ≡ 24
+row-length r h = eqb→eq (length (rowPlaces r)) 24 (at-below 64 longRow rows-long r h)
+
 rows-length : length hexRows ≡ 64
 unfolding hexRows
 rows-length = refl

@@ -1,25 +1,24 @@
 -- What the tetrahedra of a cut are, by their sides: each has four different vertices, all of them the element's, and none occurs twice.
 -- Assumes nothing.
-use mathlib.Core.Path.{_≡_, refl, sym, _∙_, ap, subst}
-use mathlib.Core.Bool.{Bool, true, false, cond, not, _&&_, _||_}
+use mathlib.Core.Path.{refl, subst}
+use mathlib.Core.Bool.{Bool, true, false, cond, _&&_}
 use mathlib.Core.List.{List, [], _∷_, _++_}
-use mathlib.Core.Logic.{_≢_}
 use Prim.Native.Nat.{ℕ, _+_, _≤_, zero-le}
-use native.Mathlib.Nat.{le-trans, le-refl}
+use native.Mathlib.Nat.{le-trans}
 use native.Mathlib.Omega.{arith}
-use lib.Dec.{eqb, T}
+use lib.Dec.{T}
 use borrow.Author.Tests.{ne-eqb}
 use Rattle.laws.specs.Words.{count, every, gather, among, distinct}
-use Rattle.solids.specs.Solids.{Solid, Tri, tri, Tet, tet, Element, element, ofTri, ofTet, cornersOf}
+use Rattle.solids.specs.Solids.{Tri, tri, Tet, tet, Element, ofTri, ofTet, cornersOf}
 use Rattle.solids.specs.Cut.{cut}
 use Rattle.solids.specs.Fit.{proper}
-use Rattle.solids.specs.Surface.{sides, sameTri, times, owners, eqTet, Plain}
+use Rattle.solids.specs.Surface.{sides, sameTri, times, owners, eqTet, Plain, byRule, Closed}
 use Rattle.laws.proofs.TestLaws.{and-both, and-left, T-true}
 use Rattle.laws.proofs.EveryLaws.{count-append}
 use Rattle.solids.proofs.SideLaws.{s0, same-test}
 use Rattle.solids.proofs.RowLaws.{eqTet→eq}
-use Rattle.solids.proofs.FaceFacts.{Apart₃}
-use Rattle.solids.proofs.PairLaws.{Good, good}
+use Rattle.solids.proofs.FaceFacts.{distinct-apart₃}
+use Rattle.solids.proofs.RuleLaws.{rule-closed}
 
 -- a triangle among others is counted
 counted : (t : Tri ℕ) (l m : List (Tri ℕ)) → 1 ≤ times t (l ++ (t ∷ m))
@@ -49,8 +48,12 @@ module _ (Q : Tri ℕ → Type 0) (P : Tet ℕ → Bool) (from : (a b c d : ℕ)
       (from a b c d (h (tri b c d) (first-side a b c d ts)) (h (tri a d c) (second-side a b c d ts)) (h (tri a b d) (third-side a b c d ts)))
       (all-tets ts (λ x l. h x (le-trans l (later x (tet a b c d) ts))))
 
-different-from : (a b c d : ℕ) → Apart₃ (tri b c d) → Apart₃ (tri a d c) → Apart₃ (tri a b d) → T (distinct (ofTet (tet a b c d)))
-different-from a b c d x y z =
+different-from : (a b c d : ℕ) → T (distinct (ofTri (tri b c d))) → T (distinct (ofTri (tri a d c))) → T (distinct (ofTri (tri a b d)))
+    → T (distinct (ofTet (tet a b c d)))
+different-from a b c d p q r =
+    let x = distinct-apart₃ b c d p in
+    let y = distinct-apart₃ a d c q in
+    let z = distinct-apart₃ a b d r in
     simp (ne-eqb a b (z .ab), ne-eqb a c (y .ac), ne-eqb a d (y .ab), ne-eqb b c (x .ab), ne-eqb b d (x .ac), ne-eqb c d (x .bc)) tt
 
 -- no tetrahedron stands more often than its first side has owners
@@ -64,8 +67,8 @@ as-often t (u ∷ ts) x h =
     go false k i = omega arith
 
 module _ (e : Element) (h : T (proper e)) where
-  g : Good e
-  g = good e h
+  shut : Closed (byRule e)
+  shut = rule-closed e h
 
   own-from : (a b c d : ℕ) → T (every (λ v. among v (cornersOf e)) (ofTri (tri b c d))) → T (every (λ v. among v (cornersOf e)) (ofTri (tri a d c)))
       → T (every (λ v. among v (cornersOf e)) (ofTri (tri a b d))) → T (every (λ v. among v (cornersOf e)) (ofTet (tet a b c d)))
@@ -80,11 +83,11 @@ module _ (e : Element) (h : T (proper e)) where
       le-trans
       (as-often (tet a b c d) (cut e) (tri b c d) λ u k.
       subst (λ (w : Tet ℕ). 1 ≤ times (tri b c d) (sides w)) (eqTet→eq (tet a b c d) u k) (counted (tri b c d) [] (tri a d c ∷ tri a b d ∷ tri a c b ∷ [])))
-      (g .closed-up .once (tri b c d))
+      (shut .once (tri b c d))
 
   pub plain : Plain e
   plain = record {
-    different = all-tets Apart₃ (λ t. distinct (ofTet t)) different-from (cut e) (λ x l. g .has x l .0);
-    own = all-tets (λ x. T (every (λ v. among v (cornersOf e)) (ofTri x))) (λ t. every (λ v. among v (cornersOf e)) (ofTet t)) own-from (cut e) (λ x l. g .has x l .1);
+    different = all-tets (λ x. T (distinct (ofTri x))) (λ t. distinct (ofTet t)) different-from (cut e) (λ x l. shut .own x l .0);
+    own = all-tets (λ x. T (every (λ v. among v (cornersOf e)) (ofTri x))) (λ t. every (λ v. among v (cornersOf e)) (ofTet t)) own-from (cut e) (λ x l. shut .own x l .1);
     once-each = once;
   }

@@ -5,19 +5,19 @@ use mathlib.Core.Bool.{Bool, true, false, cond}
 use mathlib.Core.List.{List, [], _∷_, map, List·Memᴰ}
 use Prim.Native.Nat.{ℕ, _*_, _≤_, _<_}
 use native.Mathlib.Omega.{arith}
-use lib.Dec.{T, eqb, eqb→eq}
-use lib.IntN.{ℤ, pos}
+use lib.Dec.{T, eqb}
+use lib.IntN.{pos}
 use lib.ListN.{length}
 use borrow.Author.Tests.{eq-eqb, eqb-true}
 use Rattle.laws.specs.Words.{every}
-use Rattle.solids.specs.Solids.{Place, Vertex, Solid, tetrahedron, pyramid, prism, hexahedron, Tet, Element, element, faces}
+use Rattle.solids.specs.Solids.{Place, Vertex, Solid, tetrahedron, pyramid, prism, hexahedron, Element, element, faces}
 use Rattle.solids.specs.Rotations.{isRotation, relisted, rotations}
 use Rattle.solids.specs.Cut.{through, howMany, cut, cutMesh}
 use Rattle.solids.specs.Reference.{volumeOn, positive, counterclockwise, addUp, Filled}
 use Rattle.solids.specs.Rows.{rowPlaces, rowTets, cutByRow}
 use Rattle.solids.specs.Samples.{Sample, samples}
 use Rattle.solids.specs.Fit.{proper, fitting}
-use Rattle.solids.specs.Surface.{Plain, Closed, SurfaceCut}
+use Rattle.solids.specs.Surface.{Plain, Piece, byRule, Closed, Agreeing, wholes, SurfaceOf, SurfaceCut}
 use Rattle.laws.proofs.TestLaws.{and-left, and-right, at-below}
 use Rattle.solids.proofs.ShapeLaws.{from-proper}
 use Rattle.solids.proofs.SampleLaws as SampleLaws
@@ -29,8 +29,8 @@ use Rattle.solids.proofs.FilledLaws as FilledLaws
 use Rattle.solids.proofs.RotationList as RotationList
 use Rattle.solids.proofs.RotationsComplete as RotationsComplete
 use Rattle.solids.proofs.RelistedLaws as RelistedLaws
-use Rattle.solids.proofs.ClosedElement as ClosedElement
 use Rattle.solids.proofs.MeshLaws as MeshLaws
+use Rattle.solids.proofs.RuleLaws as RuleLaws
 
 -- ---- the cut
 
@@ -114,9 +114,14 @@ cut-relisted s vs h ρ r = RelistedLaws.rotate s vs (from-proper s vs h) ρ (Rot
 -- ---- the surface
 
 -- one element: the surface of its cut is the cut of its surface
-pub closed : (e : Element) → T (proper e) → Closed e
-closed (element s vs) h = ClosedElement.closed s vs (from-proper s vs h)
+pub closed : (e : Element) → T (proper e) → Closed (byRule e)
+closed = RuleLaws.rule-closed
+
+-- pieces, whoever chose their tetrahedra and the triangles of their faces: their surface is the triangles of the outer faces
+pub surface-of : (ps : List Piece) → T (every proper (wholes ps)) → T (fitting (wholes ps)) → ((p : Piece) → List·Memᴰ p ps → Closed p)
+    → Agreeing ps → SurfaceOf ps
+surface-of = MeshLaws.surface-of
 
 -- every mesh of proper elements that fit: the surface of the cut is the cut of the surface
 pub surface-cut : (es : List Element) → T (every proper es) → T (fitting es) → SurfaceCut es
-surface-cut = MeshLaws.surface-cut
+surface-cut = RuleLaws.surface-cut

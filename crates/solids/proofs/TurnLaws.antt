@@ -1,15 +1,15 @@
 -- A face and the same face turned: which of its diagonals is cut.
 -- Assumes nothing.
-use mathlib.Core.Path.{_≡_, refl, sym, _∙_, ap, ap₂, subst}
-use mathlib.Core.Bool.{Bool, true, false, cond, not, _&&_, _||_}
+use mathlib.Core.Path.{_≡_, refl, sym, _∙_, ap, subst}
+use mathlib.Core.Bool.{Bool, true, false, cond, _&&_, _||_}
 use mathlib.Core.List.{List, [], _∷_, map}
 use mathlib.Core.Logic.{_⊎_, inl, inr}
-use Prim.Native.Nat.{ℕ, zero, suc, _<_, min}
+use Prim.Native.Nat.{ℕ, zero, suc, _<_}
 use native.Mathlib.Omega.{arith}
 use lib.Dec.{eqb, T, eqb→eq}
 use borrow.Author.Tests.{eq-eqb, ne-eqb}
 use Rattle.laws.specs.Words.{every, some, distinct, lowest}
-use Rattle.solids.specs.Solids.{Face, three, four, Tet, tet, onFace, ofFace}
+use Rattle.solids.specs.Solids.{Face, three, four, tet}
 use Rattle.solids.specs.Rotations.{eqFace}
 use Rattle.solids.specs.Cut.{turned, turns}
 use Rattle.laws.proofs.TestLaws.{or-cases, and-left, and-right}

@@ -1,17 +1,17 @@
 -- The written form of a tetrahedron is the same for all its even reorderings.
 -- Assumes nothing.
 use mathlib.Core.Path.{_≡_, refl, sym, _∙_, ap}
-use mathlib.Core.Bool.{Bool, true, false, cond, not, _&&_}
-use mathlib.Core.List.{List, [], _∷_, map}
+use mathlib.Core.Bool.{Bool, true, false, cond}
+use mathlib.Core.List.{[], _∷_}
 use mathlib.Core.Logic.{_≢_}
-use Prim.Native.Nat.{ℕ, _≤_, _<_, min}
+use Prim.Native.Nat.{ℕ, _<_}
 use native.Mathlib.Omega.{arith}
-use lib.Dec.{eqb, ltb, T}
-use borrow.Author.Tests.{ltb-true, ltb-false, eqb-true, eqb-false, lt-ltb, le-ltb, eq-eqb, ne-eqb}
-use Rattle.laws.specs.Words.{lowest, distinct, every}
-use Rattle.solids.specs.Solids.{Tet, tet, ofTet, onTet}
-use Rattle.solids.specs.Cut.{firstLowest, secondLowest, written, ascending, inOrder}
-use Rattle.solids.proofs.AscendingLaws.{Three, less, same, more, three, ascending-through}
+use lib.Dec.{eqb}
+use borrow.Author.Tests.{eq-eqb, ne-eqb}
+use Rattle.laws.specs.Words.{lowest}
+use Rattle.solids.specs.Solids.{Tet, tet, onTet}
+use Rattle.solids.specs.Cut.{firstLowest, secondLowest, written}
+use Rattle.solids.proofs.AscendingLaws.{Three, less, same, more, three}
 
 pub record Apart (a b c d : ℕ) : Type 0 where
   pub ab : a ≢ b

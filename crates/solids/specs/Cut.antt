@@ -5,7 +5,7 @@ use Prim.Native.Nat.{ℕ, zero, suc}
 use lib.Dec.{eqb, ltb}
 use lib.ListN.{getD}
 use Rattle.laws.specs.Words.{keep, count, gather, lowest}
-use Rattle.solids.specs.Solids.{Place, Vertex, Solid, tetrahedron, pyramid, prism, hexahedron, Face, three, four, Tri, tri, Tet, tet, Element, element, at, opposite, onTet, ofTet, holds, cornersOf, facesOf}
+use Rattle.solids.specs.Solids.{Place, Vertex, tetrahedron, pyramid, prism, hexahedron, Face, three, four, Tri, tri, Tet, tet, Element, element, at, opposite, onTet, ofTet, holds, cornersOf, facesOf}
 
 -- ---- the cut of a face
 

@@ -1,11 +1,11 @@
 -- Elements that fit, and outer faces: the page's section of that name.
-use mathlib.Core.Bool.{Bool, true, false, _&&_, _||_}
+use mathlib.Core.Bool.{Bool, true, _&&_, _||_}
 use mathlib.Core.List.{List, [], _∷_}
 use Prim.Native.Nat.{ℕ}
 use lib.Dec.{eqb, leb}
 use lib.ListN.{length}
 use Rattle.laws.specs.Words.{keep, count, every, some, gather, among, distinct}
-use Rattle.solids.specs.Solids.{Vertex, Face, three, four, Edge, Element, element, corners, ofFace, ends, cornersOf, facesOf, elementEdges}
+use Rattle.solids.specs.Solids.{Vertex, Face, three, four, Element, element, corners, ofFace, ends, cornersOf, facesOf, elementEdges}
 use Rattle.solids.specs.Rotations.{sameFace}
 
 -- an element with as many corners as its solid has, no vertex twice

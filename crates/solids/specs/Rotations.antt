@@ -1,5 +1,5 @@
 -- Rotations: reorderings of places that map faces to faces and keep their direction, 12, 4, 6 and 24 of them.
-use mathlib.Core.Bool.{Bool, true, false, _&&_, _||_}
+use mathlib.Core.Bool.{Bool, false, _&&_, _||_}
 use mathlib.Core.List.{List, [], _∷_, map}
 use Prim.Native.Nat.{ℕ}
 use lib.Dec.{eqb, leb}

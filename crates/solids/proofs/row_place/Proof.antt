@@ -1,8 +1,7 @@
 -- `solids::row_place` meets its contract: the place is that of the row, and outside the table there is none.
 -- Assumes nothing.
 use borrow.Author.Needs.{needs}
-use mathlib.Core.Path.{_≡_, sym, _∙_}
-use Rattle.solids.specs.Rows.{rowPlace}
+use mathlib.Core.Path.{sym, _∙_}
 use Rattle.solids.proofs.TableLaws.{row-beyond, entry-beyond, row-entry}
 use Rattle.solids.proofs.row_place.Statement.{statement}
 use Rattle.solids.proofs.row_place.Tie as tie

@@ -1,0 +1,37 @@
+// Whether the elements of a table fit together: the search for the first pair that does not fit. The verdict of a pair stands in pair.rt.
+ghost use mathlib.Core.Path.{_≡_};
+ghost use Rattle.mesh.specs.Judge.{misfit, badElement};
+
+mod corners;
+mod cycles;
+mod pair;
+mod sets;
+
+// The number, from 1, of the lowest i below j that does not fit j, or 0.
+pub fn misfit_of(table: &[u16], j: usize) -> usize
+    ensures { λ r. ⌜ r ≡ misfit (now (table .entry)) j ⌝ }
+{
+    let element = records::record_at(table, j);
+    let mut i = 0;
+    while i < j {
+        if !pair::pair_fits(records::record_at(table, i), element) {
+            return i + 1;
+        }
+        i += 1;
+    }
+    0
+}
+
+// The number, from 1, of the lowest of n elements that has a misfit, or 0.
+pub fn bad_element(table: &[u16], n: usize) -> usize
+    ensures { λ r. ⌜ r ≡ badElement (now (table .entry)) n ⌝ }
+{
+    let mut j = 0;
+    while j < n {
+        if 0 < misfit_of(table, j) {
+            return j + 1;
+        }
+        j += 1;
+    }
+    0
+}
