@@ -24,7 +24,11 @@ sound = every (λ F. every (ltb 0) (ofFace F))
 made-face : (F : Face ℕ) → T (every (ltb 0) (ofFace F)) → made (ofFace F) ≡ F
 made-face (three p q r) h = refl
 made-face (four p q r s) h =
-    let l = ltb→lt 0 s (and-left (ltb 0 s) true (and-right (ltb 0 r) (ltb 0 s && true) (and-right (ltb 0 q) (ltb 0 r && (ltb 0 s && true)) (and-right (ltb 0 p) (ltb 0 q && (ltb 0 r && (ltb 0 s && true))) h)))) in
+    let t = ltb 0 in
+    let hq = and-right (t p) (t q && (t r && (t s && true))) h in
+    let hr = and-right (t q) (t r && (t s && true)) hq in
+    let hs = and-right (t r) (t s && true) hr in
+    let l = ltb→lt 0 s (and-left (t s) true hs) in
     simp (ne-eqb s 0 (omega arith))
 
 made-at : (fs : List (Face ℕ)) → T (sound fs) → (i : ℕ) → i < length fs → drop i fs ≡ made (getD (map ofFace fs) i []) ∷ drop (suc i) fs

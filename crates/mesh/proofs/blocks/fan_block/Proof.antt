@@ -124,12 +124,13 @@ loop-again c = step (c .before .before .before .loop .inv) (c .before .before .l
 returns : tie.Need-returns Inv-loop μ-loop
 returns c =
     let z : c .before .loop .i ≡ 0 = omega arith in
+    let b = c .before .loop .block in
     let r = now (c .before .before .before .before .before .before .before .before .before .args .numbers) in
     let s = c .before .before .before .before .before .before .solid-of .result in
     let v = c .before .before .before .before .vertex-at .result .0 in
     let hs = c .before .before .before .before .before .before .solid-of .ensures ∙ ap solidOf (c .before .before .before .before .before .before .before .kind-of .ensures) in
     let e = all r (c .before .before .before .before .before .before .before .before .before .pre .0) hs (c .before .before .before .before .before .lowest-place .ensures) (c .before .before .before .before .vertex-at .ensures) in
-    subst (λ ts. BlockIs (c .before .loop .block) (inOrder ts)) (ap (λ (i : ℕ). from s (usedOf r) v i) z ∙ e) (c .before .loop .inv .same)
+    subst (λ ts. BlockIs b (inOrder ts)) (ap (λ (i : ℕ). from s (usedOf r) v i) z ∙ e) (c .before .loop .inv .same)
 
 pub fan-block-spec : {M : Type 1} → statement M
 fan-block-spec =

@@ -50,7 +50,9 @@ cast-result : tie.Need-cast-result
 cast-result c = search needs
 
 sub-result : tie.Need-sub-result
-sub-result c = omega (arith, c .before .before .before .before .before .lowest-place .ensures, first-place (now (c .before .before .before .before .before .before .before .args .numbers)) (c .before .before .before .before .before .before .before .pre .0))
+sub-result c =
+    let r = now (c .before .before .before .before .before .before .before .args .numbers) in
+    omega (arith, c .before .before .before .before .before .lowest-place .ensures, first-place r (c .before .before .before .before .before .before .before .pre .0))
 
 mul-result : tie.Need-mul-result
 mul-result c = search needs

@@ -77,13 +77,15 @@ returns-3 : tie.Need-returns-3
 returns-3 c =
     let t = c .before .before .before .before .before .before .before .before .before .before .before .args .t in
     let u = c .before .before .before .before .before .before .before .before .before .before .before .args .u in
-    sym (past-a t u (c .before .before .before .before .before .before .before .before .if1 .left) ∙ past-b t u (c .before .before .before .before .before .if2 .left) ∙ by-c t u (c .before .before .if3 .taken))
+    let past = past-a t u (c .before .before .before .before .before .before .before .before .if1 .left) ∙ past-b t u (c .before .before .before .before .before .if2 .left) in
+    sym (past ∙ by-c t u (c .before .before .if3 .taken))
 
 returns-4 : tie.Need-returns-4
 returns-4 c =
     let t = c .before .before .before .before .before .before .before .before .before .before .before .args .t in
     let u = c .before .before .before .before .before .before .before .before .before .before .before .args .u in
-    sym (past-a t u (c .before .before .before .before .before .before .before .before .if1 .left) ∙ past-b t u (c .before .before .before .before .before .if2 .left) ∙ past-c t u (c .before .before .if3 .left) ∙ last (t .3 .0) (u .3 .0))
+    let past = past-a t u (c .before .before .before .before .before .before .before .before .if1 .left) ∙ past-b t u (c .before .before .before .before .before .if2 .left) ∙ past-c t u (c .before .before .if3 .left) in
+    sym (past ∙ last (t .3 .0) (u .3 .0))
 
 pub up-to-spec : {M : Type 1} → statement M
 up-to-spec = tie.close (tie.spec returns returns-2 returns-3 returns-4)

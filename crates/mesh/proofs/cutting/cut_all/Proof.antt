@@ -99,17 +99,20 @@ loop-less : tie.Need-loop-less Inv-loop μ-loop
 loop-less c = omega arith
 
 loop-again : tie.Need-loop-again Inv-loop μ-loop
-loop-again c = step (c .before .before .before .before .before .before .loop .inv) (c .before .before .before .before .before .loop-test .taken) (c .before .before .before .before .record-at .ensures) (c .before .before .put-element .ensures) (c .before .before .put-element .kept .1 .0)
+loop-again c =
+    let s = c .before .before .put-element in
+    step (c .before .before .before .before .before .before .loop .inv) (c .before .before .before .before .before .loop-test .taken) (c .before .before .before .before .record-at .ensures) (s .ensures) (s .kept .1 .0)
 
 same-length : tie.Need-same-length Inv-loop μ-loop
 same-length c = c .before .loop .inv .size
 
 returns : tie.Need-returns Inv-loop μ-loop
 returns c =
-    let e : c .before .loop .k ≡ c .before .before .before .before .args .n = omega arith in
+    let a = c .before .before .before .before .args in
+    let e : c .before .loop .k ≡ a .n = omega arith in
     c .before .loop .inv .output
-    ∙ ap (λ (k : ℕ). placed (now (c .before .before .before .before .args .out)) 0 (flat (cutTo (now (c .before .before .before .before .args .table)) k))) e
-    ∙ placed-laid (now (c .before .before .before .before .args .out)) (flat (cutTo (now (c .before .before .before .before .args .table)) (c .before .before .before .before .args .n)))
+    ∙ ap (λ (k : ℕ). placed (now (a .out)) 0 (flat (cutTo (now (a .table)) k))) e
+    ∙ placed-laid (now (a .out)) (flat (cutTo (now (a .table)) (a .n)))
 
 pub cut-all-spec : {M : Type 1} → statement M
 cut-all-spec =

@@ -78,7 +78,9 @@ loop-less : tie.Need-loop-less Inv-loop μ-loop
 loop-less c = omega arith
 
 loop-again : tie.Need-loop-again Inv-loop μ-loop
-loop-again c = step (c .before .before .before .before .before .before .loop .inv) (c .before .before .before .before .before .loop-test .taken) none (c .before .before .put-tet .ensures) (c .before .before .put-tet .kept .0)
+loop-again c =
+    let s = c .before .before .put-tet in
+    step (c .before .before .before .before .before .before .loop .inv) (c .before .before .before .before .before .loop-test .taken) none (s .ensures) (s .kept .0)
 
 same-length : tie.Need-same-length Inv-loop μ-loop
 same-length c = c .before .loop .inv .size
