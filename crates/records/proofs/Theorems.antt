@@ -12,7 +12,7 @@ use Rattle.solids.specs.declared.Solid.{Solid}
 use Rattle.solids.specs.declared.Vertex.{Vertex}
 use Rattle.solids.specs.Solids.{Element, cornersOf, at}
 use Rattle.solids.specs.Fit.{proper}
-use Rattle.records.specs.Record.{width, kindOf, usedOf, spareOf, cornerAt, solidOf, elementOf, recordFinding, recordAt, elementAt, firstElements}
+use Rattle.records.specs.Record.{width, kindOf, usedOf, spareOf, cornerAt, solidOf, elementOf, recordFinding, recordAt, elementAt, firstElements, recordCount}
 use Rattle.records.specs.Loops.{isNumber, Faultless, Whole, WholeTable}
 use Rattle.records.proofs.RecordLaws as L
 
@@ -32,6 +32,10 @@ kind-unique r a b = one
 -- `corner`
 pub corner-unique : (r : List ℕ) (p : ℕ) (a b : Vertex) → a .0 ≡ cornerAt r p → b .0 ≡ cornerAt r p → a ≡ b
 corner-unique r p a b e f = λ i. record { 0 = one e f i }
+
+-- `record_count`
+pub count-unique : (t : List ℕ) (a b : ℕ) → a ≡ recordCount t → b ≡ recordCount t → a ≡ b
+count-unique t a b = one
 
 -- `record_at`
 pub record-unique : (t : List ℕ) (k : ℕ) (a b : List ℕ) → a ≡ recordAt t k → b ≡ recordAt t k → a ≡ b
