@@ -4,6 +4,7 @@ pub mod TableLaws
 pub mod PieceLaws
 pub mod LentLaws
 pub mod SearchLaws
+pub mod LowestLaws
 pub mod SizeLaws
 pub mod SignLaws
 pub mod GatherLaws

@@ -10,13 +10,14 @@ use Rattle.faults.specs.declared.Fault.the-variants.{Room}
 use Rattle.faults.specs.Refusals.{Verdict, accepted, refused, refuse, refuseIf, andThen, recordsOf, answerOf}
 use Rattle.solids.specs.Solids.{Vertex, Tet, ofTet}
 use Rattle.solids.specs.Cut.{cutMesh}
+use Rattle.records.specs.Limits.{tetrahedronWidth}
 use Rattle.mesh.specs.declared.CutAnswer.{CutAnswer}
 use Rattle.mesh.specs.declared.CutAnswer.the-variants.{Done, Refused}
 use Rattle.mesh.specs.Judge.{judged}
 
 -- a tetrahedron of the output is four vertex numbers
 abbrev pub tetWidth : ℕ
-tetWidth = 4
+tetWidth = tetrahedronWidth
 
 -- tetrahedra as numbers, one after the other
 unfoldable pub flat : List (Tet Vertex) → List ℕ

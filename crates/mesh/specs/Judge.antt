@@ -16,14 +16,15 @@ use Rattle.solids.specs.Solids.{Element}
 use Rattle.solids.specs.Fit.{fits}
 use Rattle.mesh.specs.declared.JudgeAnswer.{JudgeAnswer}
 use Rattle.mesh.specs.declared.JudgeAnswer.the-variants.{Done, Refused}
+use Rattle.records.specs.Limits.{vertexLimit, elementLimit}
 use Rattle.records.specs.Record.{width, recordFinding, recordAt, elementAt, firstElements}
 
 -- at most 4,096 vertices, 1,024 elements
 abbrev pub mostVertices : ℕ
-mostVertices = 4096
+mostVertices = vertexLimit
 
 abbrev pub mostElements : ℕ
-mostElements = 1024
+mostElements = elementLimit
 
 -- a finding is a fault
 abbrev pub isFault : Finding → Bool

@@ -1,5 +1,8 @@
--- The bytes, the limits and the widths that the page names. Each stands here and nowhere else.
+-- The bytes that the page names, and the limits and widths of the rooms below by the names that text uses.
 use Prim.Native.Nat.{ℕ}
+use Rattle.volume.specs.Volume as volume
+use Rattle.records.specs.Limits as limits
+use Rattle.records.specs.Record as fields
 
 -- each line ends in byte 10
 abbrev pub lineEnd : ℕ
@@ -34,17 +37,17 @@ fileLimit = 65536
 
 -- at most 4,096 vertices, 1,024 elements, 6,144 tetrahedra
 abbrev pub vertexLimit : ℕ
-vertexLimit = 4096
+vertexLimit = limits.vertexLimit
 
 abbrev pub elementLimit : ℕ
-elementLimit = 1024
+elementLimit = limits.elementLimit
 
 abbrev pub tetrahedronLimit : ℕ
-tetrahedronLimit = 6144
+tetrahedronLimit = limits.tetrahedronLimit
 
 -- thousandths of a millimetre, from -500,000 to 500,000
 abbrev pub coordinateLimit : ℕ
-coordinateLimit = 500000
+coordinateLimit = volume.limit
 
 -- one to six digits before the point, one to three after it
 abbrev pub wholeDigits : ℕ
@@ -59,11 +62,11 @@ numberDigits = 4
 
 -- a vertex is three signed numbers
 abbrev pub vertexWidth : ℕ
-vertexWidth = 3
+vertexWidth = limits.vertexWidth
 
 -- an element is nine numbers: its kind, then eight vertex numbers
 abbrev pub elementWidth : ℕ
-elementWidth = 9
+elementWidth = fields.width
 
 abbrev pub cornerWidth : ℕ
 cornerWidth = 8

@@ -1,0 +1,45 @@
+-- What the program writes for an input: the cut mesh, or one line `NO number place second`.
+use mathlib.Core.List.{List, [], _∷_, _++_}
+use Prim.Native.Nat.{ℕ, _*_}
+use lib.IntN.{ℤ}
+use lib.ListN.{length, getD}
+use Rattle.laws.specs.Words.{gather}
+use Rattle.faults.specs.Refusals.{Verdict, accepted, refused, andThen}
+use Rattle.solids.specs.Solids.{Vertex, Tet, ofTet}
+use Rattle.records.specs.Limits.{vertexLimit, elementLimit, tetrahedronLimit, vertexWidth, tetrahedronWidth}
+use Rattle.records.specs.Record.{width}
+use Rattle.mesh.specs.Cutting.{cutOf}
+use Rattle.text.specs.declared.terms.Rooms.{Rooms}
+use Rattle.text.specs.File.{fileVerdict}
+use Rattle.text.specs.Records.{storedVertices, storedElements}
+use Rattle.text.specs.Written.{writtenFile, refusalLine}
+
+-- tables with room for every file, and for every cut
+abbrev pub rooms : Rooms
+rooms = record { vertices = vertexWidth * vertexLimit; elements = width * elementLimit }
+
+abbrev pub cutRoom : ℕ
+cutRoom = tetrahedronWidth * tetrahedronLimit
+
+-- a tetrahedron as an element record: kind 4, its four vertex numbers, unused ones zero
+abbrev pub asRecord : Tet Vertex → List ℕ
+asRecord t = 4 ∷ (ofTet t ++ (0 ∷ 0 ∷ 0 ∷ 0 ∷ []))
+
+-- the cut mesh as text: all vertices, all tetrahedra, then EN with their counts
+unfoldable pub cutText : List ℤ → ℕ → List (Tet Vertex) → List ℕ
+cutText table v ts = writtenFile table (gather asRecord ts) v (length ts)
+
+-- the file is read, its table is cut; the text, or the first refusal
+unfoldable pub conversion : List ℕ → Verdict (List ℕ)
+conversion input =
+    andThen (fileVerdict rooms input) λ counts.
+    let v = getD counts 0 0 in
+    andThen (cutOf v (getD counts 1 0) (storedElements rooms input) cutRoom) λ ts. accepted (cutText (storedVertices rooms input) v ts)
+
+-- what the program writes: the cut mesh, or the line of the refusal
+abbrev pub written : Verdict (List ℕ) → List ℕ
+written (accepted text) = text
+written (refused r) = refusalLine r
+
+unfoldable pub programOutput : List ℕ → List ℕ
+programOutput input = written (conversion input)
