@@ -9,7 +9,7 @@ use lib.Dec.{ltb}
 use lib.ListN.{length, length-append}
 use borrow.Author.Tests.{ltb-false, leb-false}
 use Rattle.laws.specs.Pieces.{Pieces, rest, piece}
-use Rattle.faults.specs.Refusals.{Verdict, accepted, refused, refuse}
+use Rattle.faults.specs.Refusals.{accepted, refused, refuse}
 use Rattle.faults.specs.declared.Fault.the-variants as fault
 use Rattle.faults.specs.declared.Refusal.{Refusal}
 use Rattle.text.specs.Constants.{fileLimit, vertexLimit, elementLimit}

@@ -1,14 +1,13 @@
 -- Laws of a file's verdict, as its lines come one after the other, and what an accepted line tells.
 -- Assumes nothing.
 use Prim.Native.Nat.{ℕ, _+_, _≤_, _<_}
-use native.Mathlib.Nat.{le-refl, le-of-eq}
 use native.Mathlib.Omega.{arith}
-use mathlib.Core.Path.{_≡_, refl, sym, ap, _∙_}
+use mathlib.Core.Path.{_≡_, refl, ap, _∙_}
 use mathlib.Core.Bool.{Bool, true, false, cond, not}
 use mathlib.Core.List.{List, [], _∷_}
 use lib.ListN.{length, take, drop}
-use Rattle.laws.specs.Pieces.{Pieces, rest, piece, split, FirstAt}
-use Rattle.faults.specs.Refusals.{Verdict, accepted, refused, refuse}
+use Rattle.laws.specs.Pieces.{rest, split, FirstAt}
+use Rattle.faults.specs.Refusals.{Verdict, refused, refuse}
 use Rattle.faults.specs.declared.Fault.{Fault}
 use Rattle.faults.specs.declared.Fault.the-variants as fault
 use Rattle.text.specs.Constants.{lineEnd}
@@ -21,7 +20,6 @@ use Rattle.text.specs.declared.terms.Judged.{Judged}
 use Rattle.text.specs.declared.terms.Judged.the-variants.{Passed, Failed}
 use Rattle.text.specs.declared.terms.ReaderState.{ReaderState}
 use Rattle.text.specs.declared.terms.Rooms.{Rooms}
-use Rattle.text.specs.declared.terms.Line.{Line}
 use Rattle.text.specs.declared.terms.Line.the-variants.{Next, No}
 
 -- ---- an accepted line

@@ -6,7 +6,7 @@
 --   comma-refused     a coordinate field that holds a comma is COMMA, whatever else is wrong in it
 -- Assumes nothing.
 use Prim.Native.Nat.{ℕ, _*_, _≤_}
-use mathlib.Core.Path.{_≡_, refl, sym, ap, _∙_}
+use mathlib.Core.Path.{_≡_, sym, _∙_}
 use mathlib.Core.Bool.{true}
 use mathlib.Core.List.{List, [], _∷_}
 use lib.ListN.{length}
@@ -14,14 +14,13 @@ use lib.IntN.{ℤ}
 use Rattle.laws.specs.Pieces.{split}
 use Rattle.laws.specs.Lent.{laid}
 use Rattle.laws.proofs.LentLaws.{laid-none}
-use Rattle.faults.specs.Refusals.{Verdict, accepted, refused, answerOf}
 use Rattle.faults.proofs.Theorems.{answer-tells-verdict}
 use Rattle.faults.specs.declared.Fault.the-variants as fault
 use Rattle.faults.specs.declared.Refusal.{Refusal}
 use Rattle.text.specs.Constants.{comma, vertexLimit, elementLimit, vertexWidth, elementWidth}
 use Rattle.text.specs.Number.{cut, coordinateOf}
 use Rattle.text.specs.File.{start, linesOf, fileVerdict}
-use Rattle.text.specs.Records.{vertexRecords, elementRecords, recordsFrom, ofAccepted, storedVertices, storedElements, verdictOf, roomsOf, ReadDone}
+use Rattle.text.specs.Records.{vertexRecords, elementRecords, recordsFrom, storedVertices, storedElements, verdictOf, roomsOf, ReadDone}
 use Rattle.text.specs.declared.ReadAnswer.{ReadAnswer}
 use Rattle.text.specs.declared.ReadAnswer.the-variants.{Done, Refused}
 use Rattle.text.specs.declared.ReadCounts.{ReadCounts}

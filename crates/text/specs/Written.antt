@@ -1,21 +1,20 @@
 -- The written text: a line for each record, the written file, the verdicts of the record writers, and the line of a refusal.
 -- A line stands here without its byte 10 until it is closed.
 use Prim.Native.Nat.{ℕ, zero, suc, _+_, _/_, _%_}
-use mathlib.Core.Bool.{Bool, true, false, cond, not, _&&_, _||_}
+use mathlib.Core.Bool.{Bool, cond, not, _||_}
 use mathlib.Core.List.{List, [], _∷_, _++_, map}
 use lib.ListN.{length, getD, take, drop}
-use lib.Dec.{eqb, leb, ltb}
+use lib.Dec.{eqb, ltb}
 use lib.IntN.{ℤ, pos, negsuc, natAbs}
 use Rattle.laws.specs.Words.{gather, every, distinct}
 use Rattle.faults.specs.Refusals.{Verdict, accepted, refused, refuse, numberOf}
-use Rattle.faults.specs.declared.Fault.{Fault}
 use Rattle.faults.specs.declared.Fault.the-variants as fault
 use Rattle.faults.specs.declared.Refusal.{Refusal}
 use Rattle.text.specs.Constants.{lineEnd, space, minus, point, digit0, vertexLimit, tetrahedronLimit, coordinateLimit, vertexWidth, elementWidth}
 use Rattle.text.specs.Line.{markBytes, after}
 use Rattle.text.specs.File.{start}
 use Rattle.text.specs.declared.terms.Mark.{Mark}
-use Rattle.text.specs.declared.terms.Mark.the-variants.{Vx, Te, Py, Pz, Pr, Hx, En, Unknown}
+use Rattle.text.specs.declared.terms.Mark.the-variants.{Vx, Te, Py, Pr, Hx, En, Unknown}
 use Rattle.text.specs.declared.terms.ReaderState.{ReaderState}
 
 -- ---- numbers

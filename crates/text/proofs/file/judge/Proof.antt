@@ -6,7 +6,7 @@ use Rattle.text.specs.declared.terms.Line.the-variants.{Next}
 use Prim.Native.Nat.{_+_, _≤_, _<_}
 use native.Mathlib.Nat.{le-of-eq}
 use native.Mathlib.Omega.{arith}
-use mathlib.Core.Path.{_≡_, refl, sym, _∙_}
+use mathlib.Core.Path.{_≡_, sym, _∙_}
 use borrow.Author.Needs.{needs}
 use borrow.Author.Tests.{lt-ltb, le-ltb}
 use lib.ListN.{length, length-drop}
@@ -14,7 +14,6 @@ use Rattle.laws.specs.Pieces.{split}
 use Rattle.text.specs.Constants.{lineEnd}
 use Rattle.text.specs.Line.{lineVerdict}
 use Rattle.text.specs.File.{start, fileFrom, fileVerdict}
-use Rattle.text.specs.Loops.{Few}
 use Rattle.text.proofs.FileLaws.{line-taken, after-few, file-end, file-open, file-no, file-next}
 use Rattle.text.proofs.file.judge.Statement.{statement}
 use Rattle.text.proofs.file.judge.Tie as tie

@@ -1,8 +1,7 @@
 -- `text::number::decimals` reads one to three digits after the point. Assumes nothing.
-use Prim.Native.Nat.{_<_}
 use native.Mathlib.Nat.{mul-one}
 use native.Mathlib.Omega.{arith}
-use mathlib.Core.Path.{_≡_, sym, _∙_}
+use mathlib.Core.Path.{_≡_}
 use borrow.Author.Tests.{eq-eqb, ne-eqb, le-leb, lt-leb}
 use lib.ListN.{length}
 use Rattle.text.specs.Number.{decimals}

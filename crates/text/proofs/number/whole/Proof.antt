@@ -6,7 +6,6 @@ use Prim.Native.Nat.{zero-le}
 use borrow.Author.Tests.{eq-eqb, ne-eqb, le-leb, lt-leb}
 use lib.ListN.{length}
 use Rattle.text.specs.Number.{whole}
-use Rattle.text.specs.Loops.{WholeRead}
 use Rattle.text.proofs.NumberLaws.{under-pow}
 use borrow.Author.Needs.{needs}
 use Rattle.text.proofs.number.whole.Statement.{statement}

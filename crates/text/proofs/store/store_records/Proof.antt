@@ -1,18 +1,15 @@
 -- `text::store::store_records` stores the records of a file. Invariant: those of the rest, stored in this state, make the whole, and there are
 -- no more records than bytes. Assumes nothing.
 use Rattle.text.specs.Line.{after}
-use Prim.Native.Nat.{_+_, _*_, _≤_, _<_}
+use Prim.Native.Nat.{_+_, _≤_, _<_}
 use native.Mathlib.Nat.{le-of-eq}
 use native.Mathlib.Omega.{arith}
-use mathlib.Core.Path.{_≡_, refl, sym, ap, _∙_}
+use mathlib.Core.Path.{_≡_, refl, sym, _∙_}
 use borrow.Author.Needs.{needs}
 use lib.ListN.{length, take, length-drop}
 use lib.Seq.{sets}
-use Rattle.laws.specs.Pieces.{split}
-use Rattle.text.specs.Constants.{lineEnd, vertexWidth, elementWidth}
 use Rattle.text.specs.File.{start, linesOf}
 use Rattle.text.specs.Records.{vertexRecords, elementRecords, recordsFrom}
-use Rattle.text.specs.Loops.{Few, StoredFile}
 use Rattle.text.proofs.FileLaws.{after-few}
 use Rattle.text.proofs.RecordLaws.{vertexPlace, elementPlace, vertex-grows, element-grows, records-none, records-last, records-line}
 use Rattle.text.proofs.store.store_records.Statement.{statement}

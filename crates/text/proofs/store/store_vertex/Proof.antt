@@ -1,5 +1,4 @@
 -- `text::store::store_vertex` stores what a line adds to the vertex table. Assumes nothing.
-use mathlib.Core.Path.{refl}
 use Rattle.text.specs.Line.{fieldsOf}
 use Rattle.text.specs.Records.{vertexRecords}
 use borrow.Author.Needs.{needs}
