@@ -31,22 +31,35 @@ returns : tie.Need-returns Inv-loop μ-loop
 returns c = search needs
 
 add-t : tie.Need-add-t Inv-loop μ-loop
-add-t c = omega (arith, c .before .before .before .find .ensures, c .if1 .left, c .before .before .before .before .before .loop .inv, c .before .before .before .before .before .before .before .good .0 .0)
+add-t c =
+    let good = c .before .before .before .before .before .before .before .good in
+    let loop = c .before .before .before .before .before .loop in
+    let find = c .before .before .before .find in
+    omega (arith, find .ensures, c .if1 .left, loop .inv, good .0 .0)
 
 sub-t : tie.Need-sub-t Inv-loop μ-loop
-sub-t c = omega (arith, c .before .before .before .find .ensures, c .if1 .left)
+sub-t c =
+    let find = c .before .before .before .find in
+    omega (arith, find .ensures, c .if1 .left)
 
 part-t-start : tie.Need-part-t-start Inv-loop μ-loop
-part-t-start c = omega (arith, c .before .before .before .find .ensures, c .if1 .left)
+part-t-start c =
+    let find = c .before .before .before .find in
+    omega (arith, find .ensures, c .if1 .left)
 
 part-t-end : tie.Need-part-t-end Inv-loop μ-loop
 part-t-end c = search needs
 
 loop-less : tie.Need-loop-less Inv-loop μ-loop
-loop-less c = simp (length-take, length-drop) (omega (arith, c .before .before .before .before .find .ensures, c .before .if1 .left))
+loop-less c =
+    let find = c .before .before .before .before .find in
+    simp (length-take, length-drop) (omega (arith, find .ensures, c .before .if1 .left))
 
 loop-again : tie.Need-loop-again Inv-loop μ-loop
-loop-again c = simp (length-take, length-drop) (omega (arith, c .before .before .before .before .find .ensures, c .before .if1 .left, c .before .before .before .before .before .before .loop .inv))
+loop-again c =
+    let loop = c .before .before .before .before .before .before .loop in
+    let find = c .before .before .before .before .find in
+    simp (length-take, length-drop) (omega (arith, find .ensures, c .before .if1 .left, loop .inv))
 
 returns-2 : tie.Need-returns-2 Inv-loop μ-loop
 returns-2 c = search needs
