@@ -24,9 +24,12 @@ use Rattle.text.specs.declared.terms.Line.the-variants.{Next, No}
 
 -- ---- an accepted line
 
--- its record is within the limit and has room, and the state after it is the next
+-- it passed the tests, and the state after it is the next
 pub record Taken (rooms : Rooms) (state : ReaderState) (l : List ℕ) (next : ReaderState) : Type 0 where
+  pub known : badMark state (roleOf (markOf l)) ≡ false
   pub few : tooMany state (roleOf (markOf l)) ≡ false
+  pub shaped : badShape (wants (markOf l)) l ≡ false
+  pub passed : fieldsVerdict state (roleOf (markOf l)) (fieldsOf l) ≡ Passed
   pub room : noRoom rooms state (roleOf (markOf l)) ≡ false
   pub same : next ≡ after state l
 
@@ -35,7 +38,10 @@ no-next f s h = let z : _≡_ {A = ℕ} 0 1 = cc in absurd (omega arith)
 
 module _ (rooms : Rooms) (state : ReaderState) (l : List ℕ) (next : ReaderState) where
   through : (a b c d e : Bool) (j : Judged) (g h : Bool)
+      → badMark state (roleOf (markOf l)) ≡ c
       → tooMany state (roleOf (markOf l)) ≡ d
+      → badShape (wants (markOf l)) l ≡ e
+      → fieldsVerdict state (roleOf (markOf l)) (fieldsOf l) ≡ j
       → noRoom rooms state (roleOf (markOf l)) ≡ g
       → given a fault.Mark
       (given b fault.Shape
@@ -45,22 +51,22 @@ module _ (rooms : Rooms) (state : ReaderState) (l : List ℕ) (next : ReaderStat
       (judged j (given g fault.Room (given h fault.End (Next (after state l)))))))))
       ≡ Next next
       → Taken rooms state l next
-  through true b c d e j g h m q n = no-next fault.Mark next n
-  through false true c d e j g h m q n = no-next fault.Shape next n
-  through false false true d e j g h m q n = no-next fault.Mark next n
-  through false false false true e j g h m q n = no-next fault.Many next n
-  through false false false false true j g h m q n = no-next fault.Shape next n
-  through false false false false false (Failed f) g h m q n = no-next f next n
-  through false false false false false Passed true h m q n = no-next fault.Room next n
-  through false false false false false Passed false true m q n = no-next fault.End next n
-  through false false false false false Passed false false m q n = record { few = m; room = q; same = cc }
+  through true b c d e j g h k m o p q n = no-next fault.Mark next n
+  through false true c d e j g h k m o p q n = no-next fault.Shape next n
+  through false false true d e j g h k m o p q n = no-next fault.Mark next n
+  through false false false true e j g h k m o p q n = no-next fault.Many next n
+  through false false false false true j g h k m o p q n = no-next fault.Shape next n
+  through false false false false false (Failed f) g h k m o p q n = no-next f next n
+  through false false false false false Passed true h k m o p q n = no-next fault.Room next n
+  through false false false false false Passed false true k m o p q n = no-next fault.End next n
+  through false false false false false Passed false false k m o p q n = record { known = k; few = m; shaped = o; passed = p; room = q; same = cc }
 
   pub line-taken : (closed : Bool) → lineVerdict rooms state closed l ≡ Next next → Taken rooms state l next
   unfolding lineVerdict
   line-taken closed =
       through (state .ended) (not closed) (badMark state (roleOf (markOf l))) (tooMany state (roleOf (markOf l)))
       (badShape (wants (markOf l)) l) (fieldsVerdict state (roleOf (markOf l)) (fieldsOf l))
-      (noRoom rooms state (roleOf (markOf l))) (badCounts state (roleOf (markOf l)) (fieldsOf l)) refl refl
+      (noRoom rooms state (roleOf (markOf l))) (badCounts state (roleOf (markOf l)) (fieldsOf l)) refl refl refl refl refl
 
 -- a line gives at most one record
 role-few : (state : ReaderState) (role : Role)
