@@ -1,23 +1,22 @@
 -- An accepted file holds no comma: a line's mark, its spaces and its fields hold none.
 -- Assumes nothing.
-use Prim.Native.Nat.{ℕ, _+_}
+use Prim.Native.Nat.{ℕ}
 use native.Mathlib.Omega.{arith}
 use mathlib.Core.Path.{_≡_, refl, sym, _∙_}
 use mathlib.Core.Bool.{Bool, true, false, cond, _&&_, true≢false}
 use mathlib.Core.List.{List, [], _∷_}
-use lib.Dec.{eqb, leb, ltb}
+use lib.Dec.{eqb, leb}
 use lib.ListN.{length, getD, drop}
 use borrow.Author.Tests.{eqb-true, eqb-false, not-false}
 use Rattle.laws.specs.Pieces.{Pieces, rest, piece, push, split}
 use Rattle.laws.proofs.PieceLaws.{Free}
-use Rattle.faults.specs.Refusals.{accepted, refused, refuse}
+use Rattle.faults.specs.Refusals.{accepted}
 use Rattle.faults.specs.declared.Fault.{Fault}
 use Rattle.faults.specs.declared.Fault.the-variants as fault
-use Rattle.faults.specs.declared.Refusal.{Refusal}
-use Rattle.text.specs.Constants.{lineEnd, space, comma, minus, point, digit0, fileLimit, numberDigits, markWidth}
+use Rattle.text.specs.Constants.{lineEnd, space, comma, minus, point, digit0, numberDigits, markWidth}
 use Rattle.text.specs.Number.{cut, appended, onto, spelt, whole, numberOf, unsigned, coordinateOf}
-use Rattle.text.specs.Line.{markWith, markOf, roleOf, wants, fieldsOf, areFields, first, judgeCoordinate, judgeCount, judgeVertex, fieldVerdict, fieldsVerdict, badMark, badShape, lineVerdict}
-use Rattle.text.specs.File.{start, linesOf, atEnd, onward, fileFrom, fileVerdict}
+use Rattle.text.specs.Line.{markWith, markOf, roleOf, wants, fieldsOf, areFields, first, judgeCoordinate, judgeCount, judgeVertex, fieldVerdict, fieldsVerdict, badMark, badShape, after}
+use Rattle.text.specs.File.{fileVerdict}
 use Rattle.text.specs.declared.terms.Mark.{Mark}
 use Rattle.text.specs.declared.terms.Mark.the-variants.{Unknown}
 use Rattle.text.specs.declared.terms.Role.{Role}
@@ -29,10 +28,8 @@ use Rattle.text.specs.declared.terms.Judged.{Judged}
 use Rattle.text.specs.declared.terms.Judged.the-variants.{Passed, Failed}
 use Rattle.text.specs.declared.terms.ReaderState.{ReaderState}
 use Rattle.text.specs.declared.terms.Rooms.{Rooms}
-use Rattle.text.specs.declared.terms.Line.{Line}
-use Rattle.text.specs.declared.terms.Line.the-variants.{Next, No}
 use Rattle.text.proofs.MarkLaws.{comma-first, comma-second}
-use Rattle.text.proofs.FileLaws.{Taken, line-taken, open-refused}
+use Rattle.text.proofs.FileLaws.{Taken, accepted-holds}
 
 -- ---- a text and its pieces
 
@@ -193,27 +190,7 @@ module _ (state : ReaderState) where
 
 -- ---- a file
 
-module _ (rooms : Rooms) (cs : List ℕ) where
-  no-accept : {X : Type 0} (r : Refusal) → refused r ≡ accepted cs → X
-  no-accept r h = let z : _≡_ {A = ℕ} 0 1 = cc in absurd (omega arith)
-
-  one-free : (state : ReaderState) (n : ℕ) (l : List ℕ) (p : Pieces)
-      → ((s : ReaderState) → fileFrom rooms s (n + 1) p ≡ accepted cs → FreePieces comma p)
-      → (x : Line) → lineVerdict rooms state true l ≡ x → onward x n (λ s. fileFrom rooms s (n + 1) p) ≡ accepted cs
-      → Free comma l × FreePieces comma p
-  one-free state n l p ih (Next s) q e = (line-free state rooms l s (line-taken rooms state l s true q), ih s e)
-  one-free state n l p ih (No f) q e = no-accept (refuse f n) e
-
-  lines-free : (p : Pieces) (state : ReaderState) (n : ℕ) → fileFrom rooms state n p ≡ accepted cs → FreePieces comma p
-  unfolding fileFrom
-  lines-free (rest []) state n e = tt
-  lines-free (rest (x ∷ l)) state n e = no-accept _ (sym (open-refused rooms state n (x ∷ l) (λ s. atEnd s (n + 1))) ∙ e)
-  lines-free (piece l p) state n e = one-free state n l p (λ s q. lines-free p s (n + 1) q) (lineVerdict rooms state true l) refl e
-
-  pub file-free : (file : List ℕ) → fileVerdict rooms file ≡ accepted cs → Free comma file
-  unfolding fileVerdict
-  file-free file = by (ltb fileLimit (length file))
-    where
-      by : (b : Bool) → cond b (refused (refuse fault.Long 0)) (fileFrom rooms start 1 (linesOf file)) ≡ accepted cs → Free comma file
-      by true e = no-accept (refuse fault.Long 0) e
-      by false e = pieces-free lineEnd comma (λ z. omega arith) file (lines-free (linesOf file) start 1 e)
+pub file-free : (rooms : Rooms) (cs file : List ℕ) → fileVerdict rooms file ≡ accepted cs → Free comma file
+file-free rooms cs file e =
+    pieces-free lineEnd comma (λ z. omega arith) file
+    (accepted-holds rooms cs (λ state p. FreePieces comma p) (λ state q. tt) (λ state l p t f. (line-free state rooms l (after state l) t, f)) file e .1)
