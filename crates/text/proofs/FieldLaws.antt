@@ -6,7 +6,7 @@ use native.Mathlib.Numerals.{sub-one}
 use native.Mathlib.Omega.{arith}
 use mathlib.Core.Path.{_≡_, refl, sym, ap, _∙_}
 use mathlib.Core.Logic.{⊎-elim}
-use mathlib.Core.Bool.{Bool, true, false, _&&_}
+use mathlib.Core.Bool.{true, false}
 use mathlib.Core.List.{List, [], _∷_, append-nil}
 use lib.Dec.{eqb, eqb·suc-suc}
 use lib.ListN.{length, take, drop, drop-of-length-le}
@@ -16,8 +16,7 @@ use Rattle.faults.specs.declared.Fault.{Fault}
 use Rattle.text.specs.Constants.{space}
 use Rattle.text.specs.Line.{some, areFields, firstOf, first, fieldVerdict, fieldsVerdict}
 use Rattle.text.specs.declared.terms.Role.{Role}
-use Rattle.text.specs.declared.terms.Judged.{Judged}
-use Rattle.text.specs.declared.terms.Judged.the-variants.{Passed, Failed}
+use Rattle.text.specs.declared.terms.Judged.the-variants.{Failed}
 use Rattle.text.specs.declared.terms.ReaderState.{ReaderState}
 
 -- ---- the number of fields

@@ -13,3 +13,4 @@ pub mod RecordLaws
 pub mod ReadLaws
 pub mod AcceptedLaws
 pub mod Theorems
+pub mod CommaLaws

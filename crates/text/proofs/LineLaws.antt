@@ -1,7 +1,7 @@
 -- Laws of a line: the verdict by the first of its tests that fails, in the page's order.
 -- Assumes nothing.
 use Prim.Native.Nat.{ℕ}
-use mathlib.Core.Path.{_≡_, refl}
+use mathlib.Core.Path.{_≡_}
 use mathlib.Core.Bool.{true, false}
 use mathlib.Core.List.{List}
 use Rattle.faults.specs.declared.Fault.{Fault}

@@ -1,12 +1,12 @@
--- Laws of marks: a line too short for a mark has none.
+-- Laws of marks: a line too short for a mark has none, and so has one whose first or second byte is a comma.
 -- Assumes nothing.
 use Prim.Native.Nat.{ℕ, _<_}
 use native.Mathlib.Omega.{arith}
 use mathlib.Core.Path.{_≡_, refl}
 use mathlib.Core.Bool.{Bool, true, false, _&&_}
 use mathlib.Core.List.{List, [], _∷_}
-use lib.Dec.{eqb}
 use lib.ListN.{length}
+use Rattle.text.specs.Constants.{comma}
 use Rattle.text.specs.Line.{markWith, markOf}
 use Rattle.text.specs.declared.terms.Mark.the-variants.{Unknown}
 
@@ -19,3 +19,12 @@ unfolding markOf markWith
 mark-short [] h = refl
 mark-short (a ∷ []) h = simp no-second
 mark-short (a ∷ b ∷ t) h = absurd (omega arith)
+
+-- no mark has a comma
+pub comma-first : (a b : ℕ) → a ≡ comma → markWith a b ≡ Unknown
+unfolding markWith
+comma-first a b e = rw e
+
+pub comma-second : (a b : ℕ) → b ≡ comma → markWith a b ≡ Unknown
+unfolding markWith
+comma-second a b e = rw e (simp no-second)

@@ -1,25 +1,19 @@
 -- Reading as a whole: what judging and storing leave meets the contract.
 -- Assumes nothing.
-use Prim.Native.Nat.{ℕ, _+_, _≤_, zero-le}
+use Prim.Native.Nat.{ℕ, _≤_, zero-le}
 use native.Mathlib.Omega.{arith}
 use mathlib.Core.Path.{_≡_, refl, ap, _∙_}
-use mathlib.Core.Bool.{Bool, true, false, cond}
 use mathlib.Core.List.{List, [], _∷_}
-use lib.Dec.{ltb}
 use lib.ListN.{length}
-use lib.Seq.{sets}
 use lib.IntN.{ℤ}
-use borrow.Author.Tests.{ltb-false}
 use Rattle.laws.specs.Lent.{laid}
 use Rattle.laws.specs.Pieces.{split}
-use Rattle.faults.specs.Refusals.{Verdict, accepted, refused, refuse, answerOf}
+use Rattle.faults.specs.Refusals.{Verdict, accepted, refused, answerOf}
 use Rattle.faults.specs.declared.Fault.the-variants as fault
-use Rattle.faults.specs.declared.Refusal.{Refusal}
 use Rattle.text.specs.Constants.{fileLimit}
-use Rattle.text.specs.File.{start, linesOf, fileFrom, fileVerdict}
+use Rattle.text.specs.File.{start, linesOf, fileVerdict}
 use Rattle.text.specs.Records.{vertexRecords, elementRecords, recordsFrom, ofAccepted, storedVertices, storedElements, verdictOf, roomsOf, ReadDone}
 use Rattle.text.specs.declared.ReadAnswer.{ReadAnswer}
-use Rattle.text.specs.declared.terms.Rooms.{Rooms}
 use Rattle.text.specs.Loops.{StoredFile}
 use Rattle.text.proofs.AcceptedLaws.{file-fits}
 use Rattle.text.proofs.RecordLaws.{sets-laid}

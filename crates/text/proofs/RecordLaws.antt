@@ -1,15 +1,15 @@
 -- Laws of records: the records of a line stand after those of the lines before it.
 -- Each law is stated once, over the records of a table and where they begin, and holds of both tables.
 -- Assumes nothing.
-use Prim.Native.Nat.{ℕ, zero, suc, _+_, _*_, _≤_, _<_}
+use Prim.Native.Nat.{ℕ, suc, _+_, _*_, _≤_, _<_}
 use native.Mathlib.Nat.{zero-add, add-zero, add-suc, suc-add}
 use native.Mathlib.Omega.{arith}
-use mathlib.Core.Path.{_≡_, refl, sym, ap, _∙_}
+use mathlib.Core.Path.{_≡_, refl, _∙_}
 use mathlib.Core.Bool.{Bool, true, false}
 use mathlib.Core.List.{List, [], _∷_, _++_, map}
 use lib.ListN.{length, take, drop, getD}
 use lib.Seq.{sets}
-use Rattle.laws.specs.Pieces.{Pieces, rest, piece, split, FirstAt}
+use Rattle.laws.specs.Pieces.{split, FirstAt}
 use Rattle.laws.specs.Lent.{laid}
 use Rattle.laws.proofs.LentLaws.{placed-sets, placed-laid}
 use Rattle.text.specs.Constants.{lineEnd, vertexWidth, elementWidth, cornerWidth}

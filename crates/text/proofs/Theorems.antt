@@ -1,32 +1,34 @@
 -- What reading promises, in the words of specs/.
---   read-unique       two answers and two pairs of tables that the contract allows are equal
---   refused-keeps     a refused file leaves both tables as they were
---   accepted-stores   an accepted file leaves its records, and behind them what stood there
---   accepted-counts   its counts are those of its records, within the limits and the lent tables
---   comma-refused     a coordinate field that holds a comma is COMMA, whatever else is wrong in it
+--   read-unique         two answers and two pairs of tables that the contract allows are equal
+--   refused-keeps       a refused file leaves both tables as they were
+--   accepted-stores     an accepted file leaves its records, and behind them what stood there
+--   accepted-counts     its counts are those of its records, within the limits and the lent tables
+--   comma-refused       a coordinate field that holds a comma is COMMA, whatever else is wrong in it
+--   accepted-no-comma   an accepted file holds no comma anywhere
 -- Assumes nothing.
 use Prim.Native.Nat.{ℕ, _*_, _≤_}
-use mathlib.Core.Path.{_≡_, refl, sym, ap, _∙_}
+use mathlib.Core.Path.{_≡_, sym, _∙_}
 use mathlib.Core.Bool.{true}
 use mathlib.Core.List.{List, [], _∷_}
 use lib.ListN.{length}
 use lib.IntN.{ℤ}
 use Rattle.laws.specs.Pieces.{split}
 use Rattle.laws.specs.Lent.{laid}
+use Rattle.laws.proofs.PieceLaws.{Free}
 use Rattle.laws.proofs.LentLaws.{laid-none}
-use Rattle.faults.specs.Refusals.{Verdict, accepted, refused, answerOf}
 use Rattle.faults.proofs.Theorems.{answer-tells-verdict}
 use Rattle.faults.specs.declared.Fault.the-variants as fault
 use Rattle.faults.specs.declared.Refusal.{Refusal}
 use Rattle.text.specs.Constants.{comma, vertexLimit, elementLimit, vertexWidth, elementWidth}
 use Rattle.text.specs.Number.{cut, coordinateOf}
 use Rattle.text.specs.File.{start, linesOf, fileVerdict}
-use Rattle.text.specs.Records.{vertexRecords, elementRecords, recordsFrom, ofAccepted, storedVertices, storedElements, verdictOf, roomsOf, ReadDone}
+use Rattle.text.specs.Records.{vertexRecords, elementRecords, recordsFrom, storedVertices, storedElements, verdictOf, roomsOf, ReadDone}
 use Rattle.text.specs.declared.ReadAnswer.{ReadAnswer}
 use Rattle.text.specs.declared.ReadAnswer.the-variants.{Done, Refused}
 use Rattle.text.specs.declared.ReadCounts.{ReadCounts}
 use Rattle.text.specs.declared.terms.Coordinate.the-variants.{Wrong}
 use Rattle.text.proofs.AcceptedLaws.{file-fits}
+use Rattle.text.proofs.CommaLaws.{file-free}
 
 -- ---- two answers
 
@@ -98,6 +100,11 @@ module _ (file : List ℕ) (vertices : List ℤ) (elements : List ℕ) where
         vertices-fit = rw p (f .kept .vertexRoom);
         elements-fit = rw q (f .kept .elementRoom);
       }
+
+  -- b stands in no place of a text: `Free b`
+  pub accepted-no-comma : (counts : ReadCounts) (v : List ℤ) (e : List ℕ) → ReadDone file vertices elements (Done counts) v e → Free comma file
+  unfolding verdictOf
+  accepted-no-comma counts v e d = file-free (roomsOf vertices elements) _ file (sym (verdict-is (Done counts) v e d))
 
 -- ---- a comma
 

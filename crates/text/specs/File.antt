@@ -1,6 +1,6 @@
 -- The verdict on a whole text file: LONG, then its lines in order, threading the reader's state.
 use Prim.Native.Nat.{ℕ, _+_}
-use mathlib.Core.Bool.{Bool, true, false, cond}
+use mathlib.Core.Bool.{true, false, cond}
 use mathlib.Core.List.{List, [], _∷_}
 use lib.ListN.{length}
 use lib.Dec.{ltb}

@@ -12,8 +12,10 @@ to-store-requires c κs = search needs
 
 store-records-requires : tie.Need-store-records-requires
 store-records-requires c κs =
+    let judge = c .before .before .before .judge in
+    let to-store = c .before .before .to-store in
     let a = c .before .before .before .before .before .before .args in
-    rw (c .before .before .to-store .ensures) (stored-short (a .file .now) (a .vertices .now) (a .elements .now) _ (c .before .before .before .judge .ensures))
+    rw (to-store .ensures) (stored-short (a .file .now) (a .vertices .now) (a .elements .now) _ (judge .ensures))
 
 same-length : tie.Need-same-length
 same-length c = search needs
@@ -23,9 +25,12 @@ same-length-2 c = search needs
 
 returns : tie.Need-returns
 returns c =
+    let judge = c .before .before .before .before .before .before .before .judge in
+    let to-store = c .before .before .before .before .before .before .to-store in
+    let store-records = c .before .before .before .store-records in
     let a = c .before .before .before .before .before .before .before .before .before .before .args in
-    read-done (a .file .now) (a .vertices .now) (a .elements .now) _ (c .before .before .before .before .before .before .before .judge .ensures) _ _
-    (rw (c .before .before .before .before .before .before .to-store .ensures) at (c .before .before .before .store-records .ensures))
+    read-done (a .file .now) (a .vertices .now) (a .elements .now) _ (judge .ensures) _ _
+    (rw (to-store .ensures) at (store-records .ensures))
 
 pub read-mesh-spec : {M : Type 1} → statement M
 read-mesh-spec =

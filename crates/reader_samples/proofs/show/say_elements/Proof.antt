@@ -22,7 +22,9 @@ shared-slice-read-v : tie.Need-shared-slice-read-v Inv-loop μ-loop
 shared-slice-read-v c = search needs
 
 cast-say-number : tie.Need-cast-say-number Inv-loop μ-loop
-cast-say-number c = omega (arith, c .before .shared-slice-known2 .given (c .before .before .before .loop .i))
+cast-say-number c =
+    let loop = c .before .before .before .loop in
+    omega (arith, c .before .shared-slice-known2 .given (loop .i))
 
 say-number-requires : tie.Need-say-number-requires Inv-loop μ-loop
 say-number-requires c κs = search needs

@@ -1,6 +1,5 @@
 -- `reader_samples::show::say_vertices` ends. Assumes nothing.
 use Prim.Native.Nat.{_-_, _≤_}
-use native.Mathlib.Omega.{arith}
 use borrow.Author.Needs.{needs}
 use lib.ListN.{length}
 use Rattle.reader_samples.proofs.show.say_vertices.Statement.{statement}

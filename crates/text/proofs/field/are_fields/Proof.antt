@@ -27,26 +27,39 @@ find-requires : tie.Need-find-requires Inv-loop μ-loop
 find-requires c κs = search needs
 
 returns-2 : tie.Need-returns-2 Inv-loop μ-loop
-returns-2 c = sym (c .before .before .before .loop .inv ∙ fields-empty _ _ (rw (c .if2 .taken) at (c .before .find .ensures)))
+returns-2 c =
+    let loop = c .before .before .before .loop in
+    sym (loop .inv ∙ fields-empty _ _ (rw (c .if2 .taken) at (c .before .find .ensures)))
 
 returns-3 : tie.Need-returns-3 Inv-loop μ-loop
-returns-3 c = sym (c .before .before .before .before .loop .inv ∙ fields-last _ _ (c .before .before .find .ensures) (c .before .if2 .left) _ (c .before .before .before .if1 .left) (c .if3 .taken))
+returns-3 c =
+    let loop = c .before .before .before .before .loop in
+    let if1 = c .before .before .before .if1 in
+    let find = c .before .before .find in
+    sym (loop .inv ∙ fields-last _ _ (find .ensures) (c .before .if2 .left) _ (if1 .left) (c .if3 .taken))
 
 sub-left : tie.Need-sub-left Inv-loop μ-loop
-sub-left c = omega (arith, c .before .before .before .if1 .left)
+sub-left c =
+    let if1 = c .before .before .before .if1 in
+    omega (arith, if1 .left)
 
 past-requires : tie.Need-past-requires Inv-loop μ-loop
 past-requires c κs = search needs
 
 loop-less : tie.Need-loop-less Inv-loop μ-loop
-loop-less c = omega (arith, c .before .before .before .before .if1 .left)
+loop-less c =
+    let if1 = c .before .before .before .before .if1 in
+    omega (arith, if1 .left)
 
 loop-again : tie.Need-loop-again Inv-loop μ-loop
 loop-again c =
+    let if1 = c .before .before .before .before .if1 in
+    let find = c .before .before .before .find in
+    let if2 = c .before .before .if2 in
     let l = c .before .before .before .before .before .loop in
-    let h : c .before .before .before .find .result < length (l .t .now) = omega (arith, c .before .before .before .find .ensures .high, c .before .if3 .left) in
+    let h : find .result < length (l .t .now) = omega (arith, find .ensures .high, c .before .if3 .left) in
     l .inv
-    ∙ fields-more _ _ (c .before .before .before .find .ensures) (c .before .before .if2 .left) _ (c .before .before .before .before .if1 .left) h
+    ∙ fields-more _ _ (find .ensures) (if2 .left) _ (if1 .left) h
     ∙ rw (c .past .ensures)
 
 pub are-fields-spec : {M : Type 1} → statement M

@@ -30,11 +30,17 @@ are-fields-requires c κs = search needs
 
 returns-3 : tie.Need-returns-3
 unfolding badShape fieldsOf
-returns-3 c = rw (eq-eqb _ _ (c .before .before .before .if2 .left), ← c .before .before .from .ensures, ← c .before .are-fields .ensures, c .if3 .taken)
+returns-3 c =
+    let if2 = c .before .before .before .if2 in
+    let from = c .before .before .from in
+    rw (eq-eqb _ _ (if2 .left), ← from .ensures, ← c .before .are-fields .ensures, c .if3 .taken)
 
 returns-4 : tie.Need-returns-4
 unfolding badShape fieldsOf
-returns-4 c = rw (eq-eqb _ _ (c .before .before .before .if2 .left), ← c .before .before .from .ensures, ← c .before .are-fields .ensures, c .if3 .left)
+returns-4 c =
+    let if2 = c .before .before .before .if2 in
+    let from = c .before .before .from in
+    rw (eq-eqb _ _ (if2 .left), ← from .ensures, ← c .before .are-fields .ensures, c .if3 .left)
 
 pub bad-shape-spec : {M : Type 1} → statement M
 bad-shape-spec =

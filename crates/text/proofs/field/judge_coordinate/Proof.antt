@@ -16,7 +16,9 @@ returns : tie.Need-returns
 returns c = rw (← c .before .before .coordinate .ensures, c .enum-told .given .1)
 
 returns-2 : tie.Need-returns-2
-returns-2 c = rw (← c .before .before .before .coordinate .ensures, c .before .f .given .1)
+returns-2 c =
+    let coordinate = c .before .before .before .coordinate in
+    rw (← coordinate .ensures, c .before .f .given .1)
 
 pub judge-coordinate-spec : {M : Type 1} → statement M
 judge-coordinate-spec =

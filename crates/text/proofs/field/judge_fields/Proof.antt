@@ -2,12 +2,12 @@
 use Prim.Native.Nat.{_<_}
 use native.Mathlib.Nat.{le-of-eq}
 use native.Mathlib.Omega.{arith}
-use mathlib.Core.Path.{_≡_, refl, sym, ap, _∙_}
+use mathlib.Core.Path.{_≡_, refl, sym, _∙_}
 use borrow.Author.Needs.{needs}
 use lib.ListN.{length, length-drop}
 use Rattle.laws.specs.Pieces.{split}
 use Rattle.text.specs.Constants.{space}
-use Rattle.text.specs.Line.{fieldVerdict, fieldsVerdict}
+use Rattle.text.specs.Line.{fieldsVerdict}
 use Rattle.text.proofs.FieldLaws.{verdict-last, verdict-more, verdict-failed}
 use Rattle.text.proofs.field.judge_fields.Statement.{statement}
 use Rattle.text.proofs.field.judge_fields.Tie as tie
@@ -35,35 +35,48 @@ enum-known-f c = search needs
 
 returns : tie.Need-returns Inv-loop μ-loop
 returns c =
+    let loop = c .before .before .before .before .before .before .loop in
+    let find = c .before .before .before .before .before .find in
+    let until = c .before .before .before .before .until in
+    let judge-field = c .before .before .before .judge-field in
     sym
-    (c .before .before .before .before .before .before .loop .inv
-    ∙ verdict-failed _ _ _ _ (c .before .before .before .before .before .find .ensures) _
-    (rw (← c .before .before .before .before .until .ensures, ← c .before .before .before .judge-field .ensures) (c .before .f .given .1)))
+    (loop .inv
+    ∙ verdict-failed _ _ _ _ (find .ensures) _
+    (rw (← until .ensures, ← judge-field .ensures) (c .before .f .given .1)))
 
 enum-told : tie.Need-enum-told Inv-loop μ-loop
 enum-told c = search needs
 
 returns-2 : tie.Need-returns-2 Inv-loop μ-loop
 returns-2 c =
+    let loop = c .before .before .before .before .before .before .loop in
+    let find = c .before .before .before .before .before .find in
+    let until = c .before .before .before .before .until in
+    let judge-field = c .before .before .before .judge-field in
     sym
-    (c .before .before .before .before .before .before .loop .inv
-    ∙ verdict-last _ _ _ _ (c .before .before .before .before .before .find .ensures) (le-of-eq (sym (c .if1 .taken)))
-    ∙ rw (← c .before .before .before .before .until .ensures, ← c .before .before .before .judge-field .ensures) (c .before .enum-told .given .1))
+    (loop .inv
+    ∙ verdict-last _ _ _ _ (find .ensures) (le-of-eq (sym (c .if1 .taken)))
+    ∙ rw (← until .ensures, ← judge-field .ensures) (c .before .enum-told .given .1))
 
 past-requires : tie.Need-past-requires Inv-loop μ-loop
 past-requires c κs = search needs
 
 loop-less : tie.Need-loop-less Inv-loop μ-loop
 loop-less c =
-    rw (c .past .ensures, length-drop) (omega (arith, c .before .before .before .before .before .before .find .ensures .high, c .before .if1 .left))
+    let find = c .before .before .before .before .before .before .find in
+    rw (c .past .ensures, length-drop) (omega (arith, find .ensures .high, c .before .if1 .left))
 
 loop-again : tie.Need-loop-again Inv-loop μ-loop
 loop-again c =
+    let find = c .before .before .before .before .before .before .find in
+    let until = c .before .before .before .before .before .until in
+    let judge-field = c .before .before .before .before .judge-field in
+    let enum-told = c .before .before .enum-told in
     let l = c .before .before .before .before .before .before .before .loop in
-    let h : c .before .before .before .before .before .before .find .result < length (l .t .now) = omega (arith, c .before .before .before .before .before .before .find .ensures .high, c .before .if1 .left) in
+    let h : find .result < length (l .t .now) = omega (arith, find .ensures .high, c .before .if1 .left) in
     l .inv
-    ∙ verdict-more _ _ _ _ (c .before .before .before .before .before .before .find .ensures) h
-    ∙ rw (← c .before .before .before .before .before .until .ensures, ← c .before .before .before .before .judge-field .ensures, c .before .before .enum-told .given .1, c .past .ensures)
+    ∙ verdict-more _ _ _ _ (find .ensures) h
+    ∙ rw (← until .ensures, ← judge-field .ensures, enum-told .given .1, c .past .ensures)
 
 pub judge-fields-spec : {M : Type 1} → statement M
 judge-fields-spec =

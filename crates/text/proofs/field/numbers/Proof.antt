@@ -54,14 +54,17 @@ loop-less c = search needs
 
 loop-again : tie.Need-loop-again Inv-loop μ-loop
 loop-again c =
+    let loop-test = c .before .before .before .before .loop-test in
+    let find = c .before .before .before .find in
+    let until = c .before .before .until in
     let l = c .before .before .before .before .before .loop in
-    let h = c .before .before .before .before .loop-test .taken in
+    let h = loop-test .taken in
     let e : 8 - l .k ≡ suc (8 - (l .k + 1)) = omega arith in (
       simp length-set (l .inv .0),
       omega arith,
       l .inv .2
-          ∙ ap (sets (l .out) (l .k)) (first-more valueOf _ _ (c .before .before .before .find .ensures) _ _ e)
-          ∙ rw (c .past .ensures, c .before .value .ensures, c .before .before .until .ensures, add-one (l .k)),
+          ∙ ap (sets (l .out) (l .k)) (first-more valueOf _ _ (find .ensures) _ _ e)
+          ∙ rw (c .past .ensures, c .before .value .ensures, until .ensures, add-one (l .k)),
     )
 
 returns : tie.Need-returns Inv-loop μ-loop

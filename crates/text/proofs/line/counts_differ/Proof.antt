@@ -26,11 +26,17 @@ cast-if2 c = search needs
 
 returns-2 : tie.Need-returns-2
 unfolding badCounts
-returns-2 c = rw (← c .before .before .before .before .numbers .ensures, eq-eqb _ _ (c .before .before .if1 .left), ne-eqb _ _ (c .if2 .taken))
+returns-2 c =
+    let numbers = c .before .before .before .before .numbers in
+    let if1 = c .before .before .if1 in
+    rw (← numbers .ensures, eq-eqb _ _ (if1 .left), ne-eqb _ _ (c .if2 .taken))
 
 returns-3 : tie.Need-returns-3
 unfolding badCounts
-returns-3 c = rw (← c .before .before .before .before .numbers .ensures, eq-eqb _ _ (c .before .before .if1 .left), eq-eqb _ _ (c .if2 .left))
+returns-3 c =
+    let numbers = c .before .before .before .before .numbers in
+    let if1 = c .before .before .if1 in
+    rw (← numbers .ensures, eq-eqb _ _ (if1 .left), eq-eqb _ _ (c .if2 .left))
 
 pub counts-differ-spec : {M : Type 1} → statement M
 counts-differ-spec =

@@ -21,7 +21,10 @@ bad-mark-requires c κs = search needs
 
 returns-2 : tie.Need-returns-2
 returns-2 c =
-    line-mark _ _ _ _ _ (c .before .before .before .mark-of .ensures) (c .before .before .role-of .ensures) (c .before .before .before .before .if1 .left)
+    let if1 = c .before .before .before .before .if1 in
+    let mark-of = c .before .before .before .mark-of in
+    let role-of = c .before .before .role-of in
+    line-mark _ _ _ _ _ (mark-of .ensures) (role-of .ensures) (if1 .left)
     (sym (c .before .bad-mark .ensures) ∙ c .if2 .taken)
 
 too-many-requires : tie.Need-too-many-requires
@@ -29,8 +32,13 @@ too-many-requires c κs = search needs
 
 returns-3 : tie.Need-returns-3
 returns-3 c =
-    line-many _ _ _ _ _ (c .before .before .before .before .before .mark-of .ensures) (c .before .before .before .before .role-of .ensures) (c .before .before .before .before .before .before .if1 .left)
-    (sym (c .before .before .before .bad-mark .ensures) ∙ c .before .before .if2 .left)
+    let if1 = c .before .before .before .before .before .before .if1 in
+    let mark-of = c .before .before .before .before .before .mark-of in
+    let role-of = c .before .before .before .before .role-of in
+    let bad-mark = c .before .before .before .bad-mark in
+    let if2 = c .before .before .if2 in
+    line-many _ _ _ _ _ (mark-of .ensures) (role-of .ensures) (if1 .left)
+    (sym (bad-mark .ensures) ∙ if2 .left)
     (sym (c .before .too-many .ensures) ∙ c .if3 .taken)
 
 wants-requires : tie.Need-wants-requires
@@ -44,10 +52,18 @@ bad-shape-requires c κs = search needs
 
 returns-4 : tie.Need-returns-4
 returns-4 c =
-    line-shape _ _ _ _ _ (c .before .before .before .before .before .before .before .before .mark-of .ensures) (c .before .before .before .before .before .before .before .role-of .ensures) (c .before .before .before .before .before .before .before .before .before .if1 .left)
-    (sym (c .before .before .before .before .before .before .bad-mark .ensures) ∙ c .before .before .before .before .before .if2 .left)
-    (sym (c .before .before .before .before .too-many .ensures) ∙ c .before .before .before .if3 .left)
-    (rw (← c .before .before .wants .ensures) (sym (c .before .bad-shape .ensures) ∙ c .if4 .taken))
+    let if1 = c .before .before .before .before .before .before .before .before .before .if1 in
+    let mark-of = c .before .before .before .before .before .before .before .before .mark-of in
+    let role-of = c .before .before .before .before .before .before .before .role-of in
+    let bad-mark = c .before .before .before .before .before .before .bad-mark in
+    let if2 = c .before .before .before .before .before .if2 in
+    let too-many = c .before .before .before .before .too-many in
+    let if3 = c .before .before .before .if3 in
+    let wants = c .before .before .wants in
+    line-shape _ _ _ _ _ (mark-of .ensures) (role-of .ensures) (if1 .left)
+    (sym (bad-mark .ensures) ∙ if2 .left)
+    (sym (too-many .ensures) ∙ if3 .left)
+    (rw (← wants .ensures) (sym (c .before .bad-shape .ensures) ∙ c .if4 .taken))
 
 from-requires : tie.Need-from-requires
 from-requires c κs = search needs
@@ -61,12 +77,24 @@ enum-known-f c = search needs
 returns-5 : tie.Need-returns-5
 unfolding fieldsOf
 returns-5 c =
-    line-field _ _ _ _ _ (c .before .before .before .before .before .before .before .before .before .before .before .before .before .mark-of .ensures) (c .before .before .before .before .before .before .before .before .before .before .before .before .role-of .ensures) (c .before .before .before .before .before .before .before .before .before .before .before .before .before .before .if1 .left)
-    (sym (c .before .before .before .before .before .before .before .before .before .before .before .bad-mark .ensures) ∙ c .before .before .before .before .before .before .before .before .before .before .if2 .left)
-    (sym (c .before .before .before .before .before .before .before .before .before .too-many .ensures) ∙ c .before .before .before .before .before .before .before .before .if3 .left)
-    (rw (← c .before .before .before .before .before .before .before .wants .ensures) (sym (c .before .before .before .before .before .before .bad-shape .ensures) ∙ c .before .before .before .before .before .if4 .left))
+    let if1 = c .before .before .before .before .before .before .before .before .before .before .before .before .before .before .if1 in
+    let mark-of = c .before .before .before .before .before .before .before .before .before .before .before .before .before .mark-of in
+    let role-of = c .before .before .before .before .before .before .before .before .before .before .before .before .role-of in
+    let bad-mark = c .before .before .before .before .before .before .before .before .before .before .before .bad-mark in
+    let if2 = c .before .before .before .before .before .before .before .before .before .before .if2 in
+    let too-many = c .before .before .before .before .before .before .before .before .before .too-many in
+    let if3 = c .before .before .before .before .before .before .before .before .if3 in
+    let wants = c .before .before .before .before .before .before .before .wants in
+    let bad-shape = c .before .before .before .before .before .before .bad-shape in
+    let if4 = c .before .before .before .before .before .if4 in
+    let from = c .before .before .before .before .from in
+    let judge-fields = c .before .before .before .judge-fields in
+    line-field _ _ _ _ _ (mark-of .ensures) (role-of .ensures) (if1 .left)
+    (sym (bad-mark .ensures) ∙ if2 .left)
+    (sym (too-many .ensures) ∙ if3 .left)
+    (rw (← wants .ensures) (sym (bad-shape .ensures) ∙ if4 .left))
     _
-    (rw (← c .before .before .before .before .from .ensures) (sym (c .before .before .before .judge-fields .ensures) ∙ c .before .f .given .1))
+    (rw (← from .ensures) (sym (judge-fields .ensures) ∙ c .before .f .given .1))
 
 enum-told : tie.Need-enum-told
 enum-told c = search needs
@@ -77,11 +105,24 @@ no-room-requires c κs = search needs
 returns-6 : tie.Need-returns-6
 unfolding fieldsOf
 returns-6 c =
-    line-room _ _ _ _ _ (c .before .before .before .before .before .before .before .before .before .before .before .before .before .before .mark-of .ensures) (c .before .before .before .before .before .before .before .before .before .before .before .before .before .role-of .ensures) (c .before .before .before .before .before .before .before .before .before .before .before .before .before .before .before .if1 .left)
-    (sym (c .before .before .before .before .before .before .before .before .before .before .before .before .bad-mark .ensures) ∙ c .before .before .before .before .before .before .before .before .before .before .before .if2 .left)
-    (sym (c .before .before .before .before .before .before .before .before .before .before .too-many .ensures) ∙ c .before .before .before .before .before .before .before .before .before .if3 .left)
-    (rw (← c .before .before .before .before .before .before .before .before .wants .ensures) (sym (c .before .before .before .before .before .before .before .bad-shape .ensures) ∙ c .before .before .before .before .before .before .if4 .left))
-    (rw (← c .before .before .before .before .before .from .ensures) (sym (c .before .before .before .before .judge-fields .ensures) ∙ c .before .before .enum-told .given .1))
+    let if1 = c .before .before .before .before .before .before .before .before .before .before .before .before .before .before .before .if1 in
+    let mark-of = c .before .before .before .before .before .before .before .before .before .before .before .before .before .before .mark-of in
+    let role-of = c .before .before .before .before .before .before .before .before .before .before .before .before .before .role-of in
+    let bad-mark = c .before .before .before .before .before .before .before .before .before .before .before .before .bad-mark in
+    let if2 = c .before .before .before .before .before .before .before .before .before .before .before .if2 in
+    let too-many = c .before .before .before .before .before .before .before .before .before .before .too-many in
+    let if3 = c .before .before .before .before .before .before .before .before .before .if3 in
+    let wants = c .before .before .before .before .before .before .before .before .wants in
+    let bad-shape = c .before .before .before .before .before .before .before .bad-shape in
+    let if4 = c .before .before .before .before .before .before .if4 in
+    let from = c .before .before .before .before .before .from in
+    let judge-fields = c .before .before .before .before .judge-fields in
+    let enum-told = c .before .before .enum-told in
+    line-room _ _ _ _ _ (mark-of .ensures) (role-of .ensures) (if1 .left)
+    (sym (bad-mark .ensures) ∙ if2 .left)
+    (sym (too-many .ensures) ∙ if3 .left)
+    (rw (← wants .ensures) (sym (bad-shape .ensures) ∙ if4 .left))
+    (rw (← from .ensures) (sym (judge-fields .ensures) ∙ enum-told .given .1))
     (sym (c .before .no-room .ensures) ∙ c .if5 .taken)
 
 bad-counts-requires : tie.Need-bad-counts-requires
@@ -90,13 +131,28 @@ bad-counts-requires c κs = search needs
 returns-7 : tie.Need-returns-7
 unfolding fieldsOf
 returns-7 c =
-    line-end _ _ _ _ _ (c .before .before .before .before .before .before .before .before .before .before .before .before .before .before .before .before .mark-of .ensures) (c .before .before .before .before .before .before .before .before .before .before .before .before .before .before .before .role-of .ensures) (c .before .before .before .before .before .before .before .before .before .before .before .before .before .before .before .before .before .if1 .left)
-    (sym (c .before .before .before .before .before .before .before .before .before .before .before .before .before .before .bad-mark .ensures) ∙ c .before .before .before .before .before .before .before .before .before .before .before .before .before .if2 .left)
-    (sym (c .before .before .before .before .before .before .before .before .before .before .before .before .too-many .ensures) ∙ c .before .before .before .before .before .before .before .before .before .before .before .if3 .left)
-    (rw (← c .before .before .before .before .before .before .before .before .before .before .wants .ensures) (sym (c .before .before .before .before .before .before .before .before .before .bad-shape .ensures) ∙ c .before .before .before .before .before .before .before .before .if4 .left))
-    (rw (← c .before .before .before .before .before .before .before .from .ensures) (sym (c .before .before .before .before .before .before .judge-fields .ensures) ∙ c .before .before .before .before .enum-told .given .1))
-    (sym (c .before .before .before .no-room .ensures) ∙ c .before .before .if5 .left)
-    (rw (← c .before .before .before .before .before .before .before .from .ensures) (sym (c .before .bad-counts .ensures) ∙ c .if6 .taken))
+    let if1 = c .before .before .before .before .before .before .before .before .before .before .before .before .before .before .before .before .before .if1 in
+    let mark-of = c .before .before .before .before .before .before .before .before .before .before .before .before .before .before .before .before .mark-of in
+    let role-of = c .before .before .before .before .before .before .before .before .before .before .before .before .before .before .before .role-of in
+    let bad-mark = c .before .before .before .before .before .before .before .before .before .before .before .before .before .before .bad-mark in
+    let if2 = c .before .before .before .before .before .before .before .before .before .before .before .before .before .if2 in
+    let too-many = c .before .before .before .before .before .before .before .before .before .before .before .before .too-many in
+    let if3 = c .before .before .before .before .before .before .before .before .before .before .before .if3 in
+    let wants = c .before .before .before .before .before .before .before .before .before .before .wants in
+    let bad-shape = c .before .before .before .before .before .before .before .before .before .bad-shape in
+    let if4 = c .before .before .before .before .before .before .before .before .if4 in
+    let from = c .before .before .before .before .before .before .before .from in
+    let judge-fields = c .before .before .before .before .before .before .judge-fields in
+    let enum-told = c .before .before .before .before .enum-told in
+    let no-room = c .before .before .before .no-room in
+    let if5 = c .before .before .if5 in
+    line-end _ _ _ _ _ (mark-of .ensures) (role-of .ensures) (if1 .left)
+    (sym (bad-mark .ensures) ∙ if2 .left)
+    (sym (too-many .ensures) ∙ if3 .left)
+    (rw (← wants .ensures) (sym (bad-shape .ensures) ∙ if4 .left))
+    (rw (← from .ensures) (sym (judge-fields .ensures) ∙ enum-told .given .1))
+    (sym (no-room .ensures) ∙ if5 .left)
+    (rw (← from .ensures) (sym (c .before .bad-counts .ensures) ∙ c .if6 .taken))
 
 after-requires : tie.Need-after-requires
 after-requires c κs = search needs
@@ -104,14 +160,30 @@ after-requires c κs = search needs
 returns-8 : tie.Need-returns-8
 unfolding fieldsOf
 returns-8 c =
+    let if1 = c .before .before .before .before .before .before .before .before .before .before .before .before .before .before .before .before .before .before .if1 in
+    let mark-of = c .before .before .before .before .before .before .before .before .before .before .before .before .before .before .before .before .before .mark-of in
+    let role-of = c .before .before .before .before .before .before .before .before .before .before .before .before .before .before .before .before .role-of in
+    let bad-mark = c .before .before .before .before .before .before .before .before .before .before .before .before .before .before .before .bad-mark in
+    let if2 = c .before .before .before .before .before .before .before .before .before .before .before .before .before .before .if2 in
+    let too-many = c .before .before .before .before .before .before .before .before .before .before .before .before .before .too-many in
+    let if3 = c .before .before .before .before .before .before .before .before .before .before .before .before .if3 in
+    let wants = c .before .before .before .before .before .before .before .before .before .before .before .wants in
+    let bad-shape = c .before .before .before .before .before .before .before .before .before .before .bad-shape in
+    let if4 = c .before .before .before .before .before .before .before .before .before .if4 in
+    let from = c .before .before .before .before .before .before .before .before .from in
+    let judge-fields = c .before .before .before .before .before .before .before .judge-fields in
+    let enum-told = c .before .before .before .before .before .enum-told in
+    let no-room = c .before .before .before .before .no-room in
+    let if5 = c .before .before .before .if5 in
+    let bad-counts = c .before .before .bad-counts in
     ap Next (c .after .ensures)
-    ∙ line-next _ _ _ _ _ (c .before .before .before .before .before .before .before .before .before .before .before .before .before .before .before .before .before .mark-of .ensures) (c .before .before .before .before .before .before .before .before .before .before .before .before .before .before .before .before .role-of .ensures) (c .before .before .before .before .before .before .before .before .before .before .before .before .before .before .before .before .before .before .if1 .left)
-    (sym (c .before .before .before .before .before .before .before .before .before .before .before .before .before .before .before .bad-mark .ensures) ∙ c .before .before .before .before .before .before .before .before .before .before .before .before .before .before .if2 .left)
-    (sym (c .before .before .before .before .before .before .before .before .before .before .before .before .before .too-many .ensures) ∙ c .before .before .before .before .before .before .before .before .before .before .before .before .if3 .left)
-    (rw (← c .before .before .before .before .before .before .before .before .before .before .before .wants .ensures) (sym (c .before .before .before .before .before .before .before .before .before .before .bad-shape .ensures) ∙ c .before .before .before .before .before .before .before .before .before .if4 .left))
-    (rw (← c .before .before .before .before .before .before .before .before .from .ensures) (sym (c .before .before .before .before .before .before .before .judge-fields .ensures) ∙ c .before .before .before .before .before .enum-told .given .1))
-    (sym (c .before .before .before .before .no-room .ensures) ∙ c .before .before .before .if5 .left)
-    (rw (← c .before .before .before .before .before .before .before .before .from .ensures) (sym (c .before .before .bad-counts .ensures) ∙ c .before .if6 .left))
+    ∙ line-next _ _ _ _ _ (mark-of .ensures) (role-of .ensures) (if1 .left)
+    (sym (bad-mark .ensures) ∙ if2 .left)
+    (sym (too-many .ensures) ∙ if3 .left)
+    (rw (← wants .ensures) (sym (bad-shape .ensures) ∙ if4 .left))
+    (rw (← from .ensures) (sym (judge-fields .ensures) ∙ enum-told .given .1))
+    (sym (no-room .ensures) ∙ if5 .left)
+    (rw (← from .ensures) (sym (bad-counts .ensures) ∙ c .before .if6 .left))
 
 pub judge-line-spec : {M : Type 1} → statement M
 judge-line-spec =

@@ -19,9 +19,11 @@ spells-requires-2 c κs = search needs
 returns-2 : tie.Need-returns-2
 unfolding markWith
 returns-2 c =
+    let spells = c .before .before .before .spells in
+    let if1 = c .before .before .if1 in
     rw (
-      ← c .before .before .before .spells .ensures,
-      c .before .before .if1 .left,
+      ← spells .ensures,
+      if1 .left,
       ← c .before .spells2 .ensures,
       c .if2 .taken,
     )
@@ -32,11 +34,15 @@ spells-requires-3 c κs = search needs
 returns-3 : tie.Need-returns-3
 unfolding markWith
 returns-3 c =
+    let spells = c .before .before .before .before .before .spells in
+    let if1 = c .before .before .before .before .if1 in
+    let spells2 = c .before .before .before .spells2 in
+    let if2 = c .before .before .if2 in
     rw (
-      ← c .before .before .before .before .before .spells .ensures,
-      c .before .before .before .before .if1 .left,
-      ← c .before .before .before .spells2 .ensures,
-      c .before .before .if2 .left,
+      ← spells .ensures,
+      if1 .left,
+      ← spells2 .ensures,
+      if2 .left,
       ← c .before .spells3 .ensures,
       c .if3 .taken,
     )
@@ -47,13 +53,19 @@ spells-requires-4 c κs = search needs
 returns-4 : tie.Need-returns-4
 unfolding markWith
 returns-4 c =
+    let spells = c .before .before .before .before .before .before .before .spells in
+    let if1 = c .before .before .before .before .before .before .if1 in
+    let spells2 = c .before .before .before .before .before .spells2 in
+    let if2 = c .before .before .before .before .if2 in
+    let spells3 = c .before .before .before .spells3 in
+    let if3 = c .before .before .if3 in
     rw (
-      ← c .before .before .before .before .before .before .before .spells .ensures,
-      c .before .before .before .before .before .before .if1 .left,
-      ← c .before .before .before .before .before .spells2 .ensures,
-      c .before .before .before .before .if2 .left,
-      ← c .before .before .before .spells3 .ensures,
-      c .before .before .if3 .left,
+      ← spells .ensures,
+      if1 .left,
+      ← spells2 .ensures,
+      if2 .left,
+      ← spells3 .ensures,
+      if3 .left,
       ← c .before .spells4 .ensures,
       c .if4 .taken,
     )
@@ -64,15 +76,23 @@ spells-requires-5 c κs = search needs
 returns-5 : tie.Need-returns-5
 unfolding markWith
 returns-5 c =
+    let spells = c .before .before .before .before .before .before .before .before .before .spells in
+    let if1 = c .before .before .before .before .before .before .before .before .if1 in
+    let spells2 = c .before .before .before .before .before .before .before .spells2 in
+    let if2 = c .before .before .before .before .before .before .if2 in
+    let spells3 = c .before .before .before .before .before .spells3 in
+    let if3 = c .before .before .before .before .if3 in
+    let spells4 = c .before .before .before .spells4 in
+    let if4 = c .before .before .if4 in
     rw (
-      ← c .before .before .before .before .before .before .before .before .before .spells .ensures,
-      c .before .before .before .before .before .before .before .before .if1 .left,
-      ← c .before .before .before .before .before .before .before .spells2 .ensures,
-      c .before .before .before .before .before .before .if2 .left,
-      ← c .before .before .before .before .before .spells3 .ensures,
-      c .before .before .before .before .if3 .left,
-      ← c .before .before .before .spells4 .ensures,
-      c .before .before .if4 .left,
+      ← spells .ensures,
+      if1 .left,
+      ← spells2 .ensures,
+      if2 .left,
+      ← spells3 .ensures,
+      if3 .left,
+      ← spells4 .ensures,
+      if4 .left,
       ← c .before .spells5 .ensures,
       c .if5 .taken,
     )
@@ -83,17 +103,27 @@ spells-requires-6 c κs = search needs
 returns-6 : tie.Need-returns-6
 unfolding markWith
 returns-6 c =
+    let spells = c .before .before .before .before .before .before .before .before .before .before .before .spells in
+    let if1 = c .before .before .before .before .before .before .before .before .before .before .if1 in
+    let spells2 = c .before .before .before .before .before .before .before .before .before .spells2 in
+    let if2 = c .before .before .before .before .before .before .before .before .if2 in
+    let spells3 = c .before .before .before .before .before .before .before .spells3 in
+    let if3 = c .before .before .before .before .before .before .if3 in
+    let spells4 = c .before .before .before .before .before .spells4 in
+    let if4 = c .before .before .before .before .if4 in
+    let spells5 = c .before .before .before .spells5 in
+    let if5 = c .before .before .if5 in
     rw (
-      ← c .before .before .before .before .before .before .before .before .before .before .before .spells .ensures,
-      c .before .before .before .before .before .before .before .before .before .before .if1 .left,
-      ← c .before .before .before .before .before .before .before .before .before .spells2 .ensures,
-      c .before .before .before .before .before .before .before .before .if2 .left,
-      ← c .before .before .before .before .before .before .before .spells3 .ensures,
-      c .before .before .before .before .before .before .if3 .left,
-      ← c .before .before .before .before .before .spells4 .ensures,
-      c .before .before .before .before .if4 .left,
-      ← c .before .before .before .spells5 .ensures,
-      c .before .before .if5 .left,
+      ← spells .ensures,
+      if1 .left,
+      ← spells2 .ensures,
+      if2 .left,
+      ← spells3 .ensures,
+      if3 .left,
+      ← spells4 .ensures,
+      if4 .left,
+      ← spells5 .ensures,
+      if5 .left,
       ← c .before .spells6 .ensures,
       c .if6 .taken,
     )
@@ -104,19 +134,31 @@ spells-requires-7 c κs = search needs
 returns-7 : tie.Need-returns-7
 unfolding markWith
 returns-7 c =
+    let spells = c .before .before .before .before .before .before .before .before .before .before .before .before .before .spells in
+    let if1 = c .before .before .before .before .before .before .before .before .before .before .before .before .if1 in
+    let spells2 = c .before .before .before .before .before .before .before .before .before .before .before .spells2 in
+    let if2 = c .before .before .before .before .before .before .before .before .before .before .if2 in
+    let spells3 = c .before .before .before .before .before .before .before .before .before .spells3 in
+    let if3 = c .before .before .before .before .before .before .before .before .if3 in
+    let spells4 = c .before .before .before .before .before .before .before .spells4 in
+    let if4 = c .before .before .before .before .before .before .if4 in
+    let spells5 = c .before .before .before .before .before .spells5 in
+    let if5 = c .before .before .before .before .if5 in
+    let spells6 = c .before .before .before .spells6 in
+    let if6 = c .before .before .if6 in
     rw (
-      ← c .before .before .before .before .before .before .before .before .before .before .before .before .before .spells .ensures,
-      c .before .before .before .before .before .before .before .before .before .before .before .before .if1 .left,
-      ← c .before .before .before .before .before .before .before .before .before .before .before .spells2 .ensures,
-      c .before .before .before .before .before .before .before .before .before .before .if2 .left,
-      ← c .before .before .before .before .before .before .before .before .before .spells3 .ensures,
-      c .before .before .before .before .before .before .before .before .if3 .left,
-      ← c .before .before .before .before .before .before .before .spells4 .ensures,
-      c .before .before .before .before .before .before .if4 .left,
-      ← c .before .before .before .before .before .spells5 .ensures,
-      c .before .before .before .before .if5 .left,
-      ← c .before .before .before .spells6 .ensures,
-      c .before .before .if6 .left,
+      ← spells .ensures,
+      if1 .left,
+      ← spells2 .ensures,
+      if2 .left,
+      ← spells3 .ensures,
+      if3 .left,
+      ← spells4 .ensures,
+      if4 .left,
+      ← spells5 .ensures,
+      if5 .left,
+      ← spells6 .ensures,
+      if6 .left,
       ← c .before .spells7 .ensures,
       c .if7 .taken,
     )
@@ -124,19 +166,31 @@ returns-7 c =
 returns-8 : tie.Need-returns-8
 unfolding markWith
 returns-8 c =
+    let spells = c .before .before .before .before .before .before .before .before .before .before .before .before .before .spells in
+    let if1 = c .before .before .before .before .before .before .before .before .before .before .before .before .if1 in
+    let spells2 = c .before .before .before .before .before .before .before .before .before .before .before .spells2 in
+    let if2 = c .before .before .before .before .before .before .before .before .before .before .if2 in
+    let spells3 = c .before .before .before .before .before .before .before .before .before .spells3 in
+    let if3 = c .before .before .before .before .before .before .before .before .if3 in
+    let spells4 = c .before .before .before .before .before .before .before .spells4 in
+    let if4 = c .before .before .before .before .before .before .if4 in
+    let spells5 = c .before .before .before .before .before .spells5 in
+    let if5 = c .before .before .before .before .if5 in
+    let spells6 = c .before .before .before .spells6 in
+    let if6 = c .before .before .if6 in
     rw (
-      ← c .before .before .before .before .before .before .before .before .before .before .before .before .before .spells .ensures,
-      c .before .before .before .before .before .before .before .before .before .before .before .before .if1 .left,
-      ← c .before .before .before .before .before .before .before .before .before .before .before .spells2 .ensures,
-      c .before .before .before .before .before .before .before .before .before .before .if2 .left,
-      ← c .before .before .before .before .before .before .before .before .before .spells3 .ensures,
-      c .before .before .before .before .before .before .before .before .if3 .left,
-      ← c .before .before .before .before .before .before .before .spells4 .ensures,
-      c .before .before .before .before .before .before .if4 .left,
-      ← c .before .before .before .before .before .spells5 .ensures,
-      c .before .before .before .before .if5 .left,
-      ← c .before .before .before .spells6 .ensures,
-      c .before .before .if6 .left,
+      ← spells .ensures,
+      if1 .left,
+      ← spells2 .ensures,
+      if2 .left,
+      ← spells3 .ensures,
+      if3 .left,
+      ← spells4 .ensures,
+      if4 .left,
+      ← spells5 .ensures,
+      if5 .left,
+      ← spells6 .ensures,
+      if6 .left,
       ← c .before .spells7 .ensures,
       c .if7 .left,
     )

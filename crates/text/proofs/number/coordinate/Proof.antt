@@ -28,7 +28,10 @@ unsigned-requires c κs = search needs
 returns-2 : tie.Need-returns-2
 unfolding coordinateOf
 returns-2 c =
-    rw (c .before .before .before .before .before .before .find .ensures .miss (c .before .before .before .before .before .if1 .left), eq-eqb _ _ (c .before .before .if3 .taken), ← c .before .from .ensures)
+    let find = c .before .before .before .before .before .before .find in
+    let if1 = c .before .before .before .before .before .if1 in
+    let if3 = c .before .before .if3 in
+    rw (find .ensures .miss (if1 .left), eq-eqb _ _ (if3 .taken), ← c .before .from .ensures)
     (c .unsigned .ensures)
 
 unsigned-requires-2 : tie.Need-unsigned-requires-2
@@ -37,10 +40,13 @@ unsigned-requires-2 c κs = search needs
 returns-3 : tie.Need-returns-3
 unfolding coordinateOf
 returns-3 c =
-    let t = c .before .before .before .before .before .args .t .now in
+    let args = c .before .before .before .before .before .args in
+    let find = c .before .before .before .find in
+    let if1 = c .before .before .if1 in
+    let t = args .t .now in
     let h : getD t 0 0 ≡ 45 → ⊥ =
     ⊎-elim (λ w. w .2 .left) (λ w e. omega (arith, e, List·getD-eq-default t 0 (w .left))) (c .before .if2 .came) in
-    rw (c .before .before .before .find .ensures .miss (c .before .before .if1 .left), ne-eqb _ _ h) (c .unsigned2 .ensures)
+    rw (find .ensures .miss (if1 .left), ne-eqb _ _ h) (c .unsigned2 .ensures)
 
 pub coordinate-spec : {M : Type 1} → statement M
 coordinate-spec =

@@ -1,8 +1,7 @@
 -- `text::number::decimals` reads one to three digits after the point. Assumes nothing.
-use Prim.Native.Nat.{_<_}
 use native.Mathlib.Nat.{mul-one}
 use native.Mathlib.Omega.{arith}
-use mathlib.Core.Path.{_≡_, sym, _∙_}
+use mathlib.Core.Path.{_≡_}
 use borrow.Author.Tests.{eq-eqb, ne-eqb, le-leb, lt-leb}
 use lib.ListN.{length}
 use Rattle.text.specs.Number.{decimals}
@@ -26,21 +25,31 @@ enum-known-f c = search needs
 
 mul-t8 : tie.Need-mul-t8
 mul-t8 c =
-    let h = rw (c .before .before .f .given .1, c .if3 .taken) at (c .before .before .before .before .digits .ensures .small) in
+    let digits = c .before .before .before .before .digits in
+    let f = c .before .before .f in
+    let h = rw (f .given .1, c .if3 .taken) at (digits .ensures .small) in
     omega arith
 
 returns-3 : tie.Need-returns-3
 unfolding decimals
-returns-3 c = rw (c .if3 .taken, ← c .before .before .before .before .digits .ensures .is, c .before .before .f .given .1)
+returns-3 c =
+    let digits = c .before .before .before .before .digits in
+    let f = c .before .before .f in
+    rw (c .if3 .taken, ← digits .ensures .is, f .given .1)
 
 mul-t9 : tie.Need-mul-t9
 mul-t9 c =
-    let h = rw (c .before .before .before .f .given .1, c .if4 .taken) at (c .before .before .before .before .before .digits .ensures .small) in
+    let digits = c .before .before .before .before .before .digits in
+    let f = c .before .before .before .f in
+    let h = rw (f .given .1, c .if4 .taken) at (digits .ensures .small) in
     omega arith
 
 returns-4 : tie.Need-returns-4
 unfolding decimals
-returns-4 c = rw (c .if4 .taken, ← c .before .before .before .before .before .digits .ensures .is, c .before .before .before .f .given .1)
+returns-4 c =
+    let digits = c .before .before .before .before .before .digits in
+    let f = c .before .before .before .f in
+    rw (c .if4 .taken, ← digits .ensures .is, f .given .1)
 
 enum-told : tie.Need-enum-told
 enum-told c = search needs
@@ -48,15 +57,23 @@ enum-told c = search needs
 returns-5 : tie.Need-returns-5
 unfolding decimals
 returns-5 c =
-    let t = c .before .before .before .before .before .before .before .before .before .args .t .now in
+    let args = c .before .before .before .before .before .before .before .before .before .args in
+    let if1 = c .before .before .before .before .before .before .before .if1 in
+    let if2 = c .before .before .before .before .before .before .if2 in
+    let digits = c .before .before .before .before .before .digits in
+    let f = c .before .before .before .f in
+    let t = args .t .now in
     let h : length t ≡ 3 =
-    omega (arith, c .before .before .before .before .before .before .before .if1 .left, c .before .before .before .before .before .before .if2 .left, c .before .if3 .left, c .if4 .left) in
-    rw (h, ← c .before .before .before .before .before .digits .ensures .is, c .before .before .before .f .given .1, mul-one)
+    omega (arith, if1 .left, if2 .left, c .before .if3 .left, c .if4 .left) in
+    rw (h, ← digits .ensures .is, f .given .1, mul-one)
 
 returns-6 : tie.Need-returns-6
 unfolding decimals
 returns-6 c =
-    rw (ne-eqb _ _ (c .before .before .before .before .if1 .left), le-leb _ _ (c .before .before .before .if2 .left), ← c .before .before .digits .ensures .is, c .enum-told .given .1)
+    let if1 = c .before .before .before .before .if1 in
+    let if2 = c .before .before .before .if2 in
+    let digits = c .before .before .digits in
+    rw (ne-eqb _ _ (if1 .left), le-leb _ _ (if2 .left), ← digits .ensures .is, c .enum-told .given .1)
 
 pub decimals-spec : {M : Type 1} → statement M
 decimals-spec =

@@ -1,7 +1,7 @@
 -- `text::number::digits` spells a number. Invariant: the whole spells what the rest from i on spells after n, and n has at most i digits.
 -- Assumes nothing.
 use Prim.Native.Nat.{_-_, _^_, _≤_, _<_}
-use native.Mathlib.Nat.{pow-suc, pow-le-pow-right, lt-of-lt-of-le, le-of-lt}
+use native.Mathlib.Nat.{pow-suc, pow-le-pow-right, lt-of-lt-of-le}
 use native.Mathlib.Numerals.{add-one}
 use native.Mathlib.Omega.{arith}
 use mathlib.Core.Path.{_≡_, refl, sym, _∙_}
@@ -28,8 +28,9 @@ shared-slice-read-appended c = search needs
 
 appended-requires : tie.Need-appended-requires Inv-loop μ-loop
 appended-requires c κs =
+    let pre = c .before .before .before .before .pre in
     let l = c .before .before .loop in
-    let h : l .i ≤ wholeDigits = omega (arith, c .before .loop-test .taken, c .before .before .before .before .pre) in
+    let h : l .i ≤ wholeDigits = omega (arith, c .before .loop-test .taken, pre) in
     lt-of-lt-of-le (l .inv .1) (pow-le-pow-right (lit< tt) h)
 
 enum-known-m : tie.Need-enum-known-m Inv-loop μ-loop
@@ -40,9 +41,11 @@ enum-told c = search needs
 
 returns : tie.Need-returns Inv-loop μ-loop
 returns c =
+    let loop-test = c .before .before .before .before .loop-test in
+    let appended = c .before .before .appended in
     let l = c .before .before .before .before .before .loop in
     record {
-      is = sym (l .inv .2 ∙ spelt-not _ _ _ (c .before .before .before .before .loop-test .taken) (sym (c .before .before .appended .ensures) ∙ c .enum-told .given .1));
+      is = sym (l .inv .2 ∙ spelt-not _ _ _ (loop-test .taken) (sym (appended .ensures) ∙ c .enum-told .given .1));
       small = tt;
     }
 
@@ -54,11 +57,13 @@ loop-less c = search needs
 
 loop-again : tie.Need-loop-again Inv-loop μ-loop
 loop-again c =
+    let loop-test = c .before .before .before .before .before .loop-test in
+    let appended = c .before .before .before .appended in
     let l = c .before .before .before .before .before .before .loop in
-    let e = sym (c .before .before .before .appended .ensures) ∙ c .before .m .given .1 in (
+    let e = sym (appended .ensures) ∙ c .before .m .given .1 in (
       search needs,
       rw (add-one, pow-suc) (omega (arith, appended-small _ _ _ e)),
-      l .inv .2 ∙ spelt-on _ _ _ (c .before .before .before .before .before .loop-test .taken) _ e,
+      l .inv .2 ∙ spelt-on _ _ _ (loop-test .taken) _ e,
     )
 
 returns-2 : tie.Need-returns-2 Inv-loop μ-loop

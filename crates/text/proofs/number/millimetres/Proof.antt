@@ -33,12 +33,16 @@ sub-t15 c = minus-fits _ (c .before .if1 .taken)
 returns : tie.Need-returns
 unfolding millimetres
 returns c =
-    rw (c .before .before .before .before .before .before .w .given .1, c .before .before .before .f .given .1, c .if2 .taken, le-leb _ _ (c .before .if1 .taken), minus _ (c .before .if1 .taken))
+    let w = c .before .before .before .before .before .before .w in
+    let f = c .before .before .before .f in
+    rw (w .given .1, f .given .1, c .if2 .taken, le-leb _ _ (c .before .if1 .taken), minus _ (c .before .if1 .taken))
 
 returns-2 : tie.Need-returns-2
 unfolding millimetres
 returns-2 c =
-    rw (c .before .before .before .before .before .before .w .given .1, c .before .before .before .f .given .1, c .if2 .left, le-leb _ _ (c .before .if1 .taken), plus _ (c .before .if1 .taken))
+    let w = c .before .before .before .before .before .before .w in
+    let f = c .before .before .before .f in
+    rw (w .given .1, f .given .1, c .if2 .left, le-leb _ _ (c .before .if1 .taken), plus _ (c .before .if1 .taken))
 
 enum-told : tie.Need-enum-told
 enum-told c = search needs
@@ -48,11 +52,16 @@ enum-told-2 c = search needs
 
 returns-3 : tie.Need-returns-3
 unfolding millimetres
-returns-3 c = rw (c .before .before .before .before .before .w .given .1, c .before .before .f .given .1, lt-leb _ _ (c .if1 .left))
+returns-3 c =
+    let w = c .before .before .before .before .before .w in
+    let f = c .before .before .f in
+    rw (w .given .1, f .given .1, lt-leb _ _ (c .if1 .left))
 
 returns-4 : tie.Need-returns-4
 unfolding millimetres
-returns-4 c = rw (c .before .before .before .w .given .1, c .enum-told .given .1)
+returns-4 c =
+    let w = c .before .before .before .w in
+    rw (w .given .1, c .enum-told .given .1)
 
 returns-5 : tie.Need-returns-5
 returns-5 c = rw (c .enum-told2 .given .1) (no-millimetres _ _)

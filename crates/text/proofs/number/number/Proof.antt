@@ -1,6 +1,5 @@
 -- `text::number::number` reads a vertex number or count. Assumes nothing.
 use Rattle.text.specs.Number.{numberOf}
-use Rattle.text.specs.Loops.{NumberRead}
 use borrow.Author.Needs.{needs}
 use Rattle.text.proofs.number.number.Statement.{statement}
 use Rattle.text.proofs.number.number.Tie as tie

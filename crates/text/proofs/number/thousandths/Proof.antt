@@ -18,7 +18,8 @@ enum-told c = search needs
 returns : tie.Need-returns
 unfolding thousandthsOf
 returns c =
-    rw (← c .before .before .before .coordinate .ensures, c .before .z .given .1) (toZ-ofZ w32 (c .before .z .given .0 .0) (search needs))
+    let coordinate = c .before .before .before .coordinate in
+    rw (← coordinate .ensures, c .before .z .given .1) (toZ-ofZ w32 (c .before .z .given .0 .0) (search needs))
 
 returns-2 : tie.Need-returns-2
 unfolding thousandthsOf

@@ -21,7 +21,9 @@ millimetres-requires c κs = search needs
 returns : tie.Need-returns
 unfolding unsigned
 returns c =
-    rw (c .before .before .before .find .ensures .miss (le-of-eq (sym (c .before .before .if1 .taken))), ← c .before .whole .ensures .is) (c .millimetres .ensures)
+    let find = c .before .before .before .find in
+    let if1 = c .before .before .if1 in
+    rw (find .ensures .miss (le-of-eq (sym (if1 .taken))), ← c .before .whole .ensures .is) (c .millimetres .ensures)
 
 past-requires : tie.Need-past-requires
 past-requires c κs = search needs
@@ -32,9 +34,13 @@ find-requires-2 c κs = search needs
 returns-2 : tie.Need-returns-2
 unfolding unsigned
 returns-2 c =
-    let h : c .before .before .before .before .find .result < length (c .before .before .before .before .before .before .args .t .now) =
-    omega (arith, c .before .before .before .before .find .ensures .high, c .before .before .before .if1 .left) in
-    rw (c .before .before .before .before .find .ensures .hit h, ← c .before .before .past .ensures, c .before .find2 .ensures .hit (c .if2 .taken))
+    let args = c .before .before .before .before .before .before .args in
+    let find = c .before .before .before .before .find in
+    let if1 = c .before .before .before .if1 in
+    let past = c .before .before .past in
+    let h : find .result < length (args .t .now) =
+    omega (arith, find .ensures .high, if1 .left) in
+    rw (find .ensures .hit h, ← past .ensures, c .before .find2 .ensures .hit (c .if2 .taken))
 
 until-requires : tie.Need-until-requires
 until-requires c κs = search needs
@@ -51,14 +57,22 @@ millimetres-requires-2 c κs = search needs
 returns-3 : tie.Need-returns-3
 unfolding unsigned
 returns-3 c =
-    let h : c .before .before .before .before .before .before .before .before .find .result < length (c .before .before .before .before .before .before .before .before .before .before .args .t .now) =
-    omega (arith, c .before .before .before .before .before .before .before .before .find .ensures .high, c .before .before .before .before .before .before .before .if1 .left) in
+    let args = c .before .before .before .before .before .before .before .before .before .before .args in
+    let find = c .before .before .before .before .before .before .before .before .find in
+    let if1 = c .before .before .before .before .before .before .before .if1 in
+    let past = c .before .before .before .before .before .before .past in
+    let find2 = c .before .before .before .before .before .find2 in
+    let if2 = c .before .before .before .before .if2 in
+    let until = c .before .before .before .until in
+    let whole2 = c .before .before .whole2 in
+    let h : find .result < length (args .t .now) =
+    omega (arith, find .ensures .high, if1 .left) in
     rw (
-      c .before .before .before .before .before .before .before .before .find .ensures .hit h,
-      ← c .before .before .before .before .before .before .past .ensures,
-      c .before .before .before .before .before .find2 .ensures .miss (c .before .before .before .before .if2 .left),
-      ← c .before .before .before .until .ensures,
-      ← c .before .before .whole2 .ensures .is,
+      find .ensures .hit h,
+      ← past .ensures,
+      find2 .ensures .miss (if2 .left),
+      ← until .ensures,
+      ← whole2 .ensures .is,
       ← c .before .decimals .ensures,
     )
     (c .millimetres2 .ensures)

@@ -13,7 +13,8 @@ enum-known-n c = search needs
 
 cast-result : tie.Need-cast-result
 cast-result c =
-    let h = rw (c .before .n .given .1) at (c .before .before .before .number .ensures .small) in
+    let number = c .before .before .before .number in
+    let h = rw (c .before .n .given .1) at (number .ensures .small) in
     omega arith
 
 enum-told : tie.Need-enum-told
@@ -21,7 +22,9 @@ enum-told c = search needs
 
 returns : tie.Need-returns
 unfolding valueOf
-returns c = rw (← c .before .before .before .number .ensures .is, c .before .n .given .1)
+returns c =
+    let number = c .before .before .before .number in
+    rw (← number .ensures .is, c .before .n .given .1)
 
 returns-2 : tie.Need-returns-2
 unfolding valueOf

@@ -24,9 +24,11 @@ shared-slice-read-if1 c = search needs
 
 returns : tie.Need-returns Inv-loop μ-loop
 returns c =
+    let args = c .before .before .before .before .args in
+    let loop-test = c .before .before .loop-test in
     let l = c .before .before .before .loop in
-    let t = c .before .before .before .before .args .t .now in
-    let h : l .i < length t = c .before .before .loop-test .taken in
+    let t = args .t .now in
+    let h : l .i < length t = loop-test .taken in
     rw add-zero at (l .inv .1 0 (rw (drop-cons t (l .i) 0) (first-here _ _ _ (c .if1 .taken))))
 
 add-i : tie.Need-add-i Inv-loop μ-loop
@@ -37,9 +39,11 @@ loop-less c = search needs
 
 loop-again : tie.Need-loop-again Inv-loop μ-loop
 loop-again c =
+    let args = c .before .before .before .before .args in
+    let loop-test = c .before .before .loop-test in
     let l = c .before .before .before .loop in
-    let t = c .before .before .before .before .args .t .now in
-    let h : l .i < length t = c .before .before .loop-test .taken in (
+    let t = args .t .now in
+    let h : l .i < length t = loop-test .taken in (
       search needs,
       λ r k.
           rw (add-one, suc-add, ← add-suc)

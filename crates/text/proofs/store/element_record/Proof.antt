@@ -39,7 +39,10 @@ array-read-t31 c = search needs
 
 returns : tie.Need-returns
 unfolding elementRecord
-returns c = rw (← c .before .before .before .numbers .ensures, ← c .before .tip-first .ensures, c .if1 .taken, ← c .before .before .wants .ensures)
+returns c =
+    let numbers = c .before .before .before .numbers in
+    let wants = c .before .before .wants in
+    rw (← numbers .ensures, ← c .before .tip-first .ensures, c .if1 .taken, ← wants .ensures)
 
 array-read-t34 : tie.Need-array-read-t34
 array-read-t34 c = search needs
@@ -67,7 +70,10 @@ array-read-t55 c = search needs
 
 returns-2 : tie.Need-returns-2
 unfolding elementRecord
-returns-2 c = rw (← c .before .before .before .numbers .ensures, ← c .before .tip-first .ensures, c .if1 .left, ← c .before .before .wants .ensures)
+returns-2 c =
+    let numbers = c .before .before .before .numbers in
+    let wants = c .before .before .wants in
+    rw (← numbers .ensures, ← c .before .tip-first .ensures, c .if1 .left, ← wants .ensures)
 
 pub element-record-spec : {M : Type 1} → statement M
 element-record-spec =

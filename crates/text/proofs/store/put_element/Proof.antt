@@ -3,7 +3,7 @@ use native.Mathlib.Numerals.{add-one}
 use Prim.Native.Nat.{suc, _+_, _-_, _≤_, _<_}
 use native.Mathlib.Nat.{add-zero}
 use native.Mathlib.Omega.{arith}
-use mathlib.Core.Path.{_≡_, refl, sym, ap, _∙_}
+use mathlib.Core.Path.{_≡_, refl, sym, _∙_}
 use borrow.Author.Needs.{needs}
 use lib.ListN.{length, drop, drop-of-length-le}
 use lib.Seq.{sets, drop-cons}
@@ -24,7 +24,9 @@ loop-holds : tie.Need-loop-holds Inv-loop μ-loop
 loop-holds c = (refl, omega arith, rw add-zero)
 
 add-put-number : tie.Need-add-put-number Inv-loop μ-loop
-add-put-number c = omega (arith, c .before .before .before .before .pre)
+add-put-number c =
+    let pre = c .before .before .before .before .pre in
+    omega (arith, pre)
 
 mul-put-number : tie.Need-mul-put-number Inv-loop μ-loop
 mul-put-number c = search needs
@@ -43,13 +45,14 @@ loop-less c = search needs
 
 loop-again : tie.Need-loop-again Inv-loop μ-loop
 loop-again c =
+    let put-number = c .before .before .put-number in
     let l = c .before .before .before .before .before .loop in
     let a = c .before .before .before .before .before .before .before .args in
     let h : l .k < length (a .t1) = search needs in
     let e : a .at + (l .k + 1) ≡ suc (a .at + l .k) = omega arith in (
-      c .before .before .put-number .kept .0 ∙ l .inv .0,
+      put-number .kept .0 ∙ l .inv .0,
       omega arith,
-      l .inv .2 ∙ rw (drop-cons (a .t1) (l .k) 0, e, add-one (l .k), c .before .before .put-number .ensures),
+      l .inv .2 ∙ rw (drop-cons (a .t1) (l .k) 0, e, add-one (l .k), put-number .ensures),
     )
 
 same-length : tie.Need-same-length Inv-loop μ-loop

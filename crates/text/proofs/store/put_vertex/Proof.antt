@@ -36,7 +36,9 @@ find-requires : tie.Need-find-requires Inv-loop μ-loop
 find-requires c κs = search needs
 
 add-put-coordinate : tie.Need-add-put-coordinate Inv-loop μ-loop
-add-put-coordinate c = omega (arith, c .before .before .before .before .before .before .pre .few)
+add-put-coordinate c =
+    let pre = c .before .before .before .before .before .before .pre in
+    omega (arith, pre .few)
 
 until-requires : tie.Need-until-requires Inv-loop μ-loop
 until-requires c κs = search needs
@@ -58,16 +60,21 @@ loop-less c = search needs
 
 loop-again : tie.Need-loop-again Inv-loop μ-loop
 loop-again c =
+    let loop-test = c .before .before .before .before .before .before .before .loop-test in
+    let find = c .before .before .before .before .before .before .find in
+    let until = c .before .before .before .before .until in
+    let thousandths = c .before .before .before .thousandths in
+    let put-coordinate = c .before .before .put-coordinate in
     let l = c .before .before .before .before .before .before .before .before .loop in
     let a = c .before .before .before .before .before .before .before .before .before .before .before .args in
-    let h = c .before .before .before .before .before .before .before .loop-test .taken in
+    let h = loop-test .taken in
     let e : 3 * a .state .vertices + (l .k + 1) ≡ suc (3 * a .state .vertices + l .k) = omega arith in
     let q : vertexWidth - l .k ≡ suc (vertexWidth - (l .k + 1)) = omega arith in (
-      c .before .before .put-coordinate .kept .0 ∙ l .inv .0,
+      put-coordinate .kept .0 ∙ l .inv .0,
       omega arith,
       l .inv .2
-          ∙ ap (sets (l .table) (3 * a .state .vertices + l .k)) (first-more thousandthsOf _ _ (c .before .before .before .before .before .before .find .ensures) _ _ q)
-          ∙ rw (c .past .ensures, e, c .before .before .put-coordinate .ensures, back _ (c .before .before .before .thousandths .ok), c .before .before .before .thousandths .ensures, c .before .before .before .before .until .ensures),
+          ∙ ap (sets (l .table) (3 * a .state .vertices + l .k)) (first-more thousandthsOf _ _ (find .ensures) _ _ q)
+          ∙ rw (c .past .ensures, e, put-coordinate .ensures, back _ (thousandths .ok), thousandths .ensures, until .ensures),
     )
 
 same-length : tie.Need-same-length Inv-loop μ-loop

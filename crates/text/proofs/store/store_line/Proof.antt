@@ -28,10 +28,14 @@ same-length-2 c = search needs
 returns : tie.Need-returns
 unfolding after
 returns c =
+    let mark-of = c .before .before .before .before .before .before .before .before .before .mark-of in
+    let role-of = c .before .before .before .before .before .before .before .before .role-of in
+    let store-vertex = c .before .before .before .before .before .before .store-vertex in
+    let store-element = c .before .before .before .store-element in
     record {
-      vertexTable = rw (← c .before .before .before .before .before .before .before .before .before .mark-of .ensures, ← c .before .before .before .before .before .before .before .before .role-of .ensures) (c .before .before .before .before .before .before .store-vertex .ensures);
-      elementTable = rw (← c .before .before .before .before .before .before .before .before .before .mark-of .ensures, ← c .before .before .before .before .before .before .before .before .role-of .ensures) (c .before .before .before .store-element .ensures);
-      same = rw (← c .before .before .before .before .before .before .before .before .before .mark-of .ensures, ← c .before .before .before .before .before .before .before .before .role-of .ensures) (c .after .ensures);
+      vertexTable = rw (← mark-of .ensures, ← role-of .ensures) (store-vertex .ensures);
+      elementTable = rw (← mark-of .ensures, ← role-of .ensures) (store-element .ensures);
+      same = rw (← mark-of .ensures, ← role-of .ensures) (c .after .ensures);
     }
 
 pub store-line-spec : {M : Type 1} → statement M

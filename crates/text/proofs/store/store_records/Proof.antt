@@ -1,18 +1,15 @@
 -- `text::store::store_records` stores the records of a file. Invariant: those of the rest, stored in this state, make the whole, and there are
 -- no more records than bytes. Assumes nothing.
 use Rattle.text.specs.Line.{after}
-use Prim.Native.Nat.{_+_, _*_, _≤_, _<_}
+use Prim.Native.Nat.{_+_, _≤_, _<_}
 use native.Mathlib.Nat.{le-of-eq}
 use native.Mathlib.Omega.{arith}
-use mathlib.Core.Path.{_≡_, refl, sym, ap, _∙_}
+use mathlib.Core.Path.{_≡_, refl, sym, _∙_}
 use borrow.Author.Needs.{needs}
 use lib.ListN.{length, take, length-drop}
 use lib.Seq.{sets}
-use Rattle.laws.specs.Pieces.{split}
-use Rattle.text.specs.Constants.{lineEnd, vertexWidth, elementWidth}
 use Rattle.text.specs.File.{start, linesOf}
 use Rattle.text.specs.Records.{vertexRecords, elementRecords, recordsFrom}
-use Rattle.text.specs.Loops.{Few, StoredFile}
 use Rattle.text.proofs.FileLaws.{after-few}
 use Rattle.text.proofs.RecordLaws.{vertexPlace, elementPlace, vertex-grows, element-grows, records-none, records-last, records-line}
 use Rattle.text.proofs.store.store_records.Statement.{statement}
@@ -37,10 +34,14 @@ find-requires : tie.Need-find-requires Inv-loop μ-loop
 find-requires c κs = search needs
 
 same-length : tie.Need-same-length Inv-loop μ-loop
-same-length c = c .before .before .before .loop .inv .0
+same-length c =
+    let loop = c .before .before .before .loop in
+    loop .inv .0
 
 same-length-2 : tie.Need-same-length-2 Inv-loop μ-loop
-same-length-2 c = c .before .before .before .loop .inv .1
+same-length-2 c =
+    let loop = c .before .before .before .loop in
+    loop .inv .1
 
 returns : tie.Need-returns Inv-loop μ-loop
 returns c =
@@ -56,34 +57,44 @@ until-requires : tie.Need-until-requires Inv-loop μ-loop
 until-requires c κs = search needs
 
 store-line-requires : tie.Need-store-line-requires Inv-loop μ-loop
-store-line-requires c κs = record { few = omega (arith, c .before .before .before .before .before .before .loop .inv .2, c .before .before .before .before .before .before .before .before .before .pre) }
+store-line-requires c κs =
+    let pre = c .before .before .before .before .before .before .before .before .before .pre in
+    let loop = c .before .before .before .before .before .before .loop in
+    record { few = omega (arith, loop .inv .2, pre) }
 
 past-requires : tie.Need-past-requires Inv-loop μ-loop
 past-requires c κs = search needs
 
 loop-less : tie.Need-loop-less Inv-loop μ-loop
-loop-less c = rw (c .past .ensures, length-drop) (omega (arith, c .before .before .before .before .before .before .before .before .before .find .ensures .high, c .before .before .before .before .before .before .before .before .if1 .left))
+loop-less c =
+    let find = c .before .before .before .before .before .before .before .before .before .find in
+    let if1 = c .before .before .before .before .before .before .before .before .if1 in
+    rw (c .past .ensures, length-drop) (omega (arith, find .ensures .high, if1 .left))
 
 loop-again : tie.Need-loop-again Inv-loop μ-loop
 loop-again c =
+    let find = c .before .before .before .before .before .before .before .before .before .find in
+    let if1 = c .before .before .before .before .before .before .before .before .if1 in
+    let until = c .before .before .before .before .before .before .before .until in
+    let store-line = c .before .before .before .before .store-line in
     let l = c .before .before .before .before .before .before .before .before .before .before .before .loop in
     let t = l .t .now in
-    let r = c .before .before .before .before .before .before .before .before .before .find .result in
-    let k = c .before .before .before .before .before .before .before .before .before .find .ensures in
-    let e = c .before .before .before .before .store-line .ensures in
-    let s = c .before .before .before .before .store-line .result in
-    let h : r < length t = omega (arith, k .high, c .before .before .before .before .before .before .before .before .if1 .left) in
-    let same : s ≡ after (l .state) (take r t) = rw (← c .before .before .before .before .before .before .before .until .ensures) (e .same) in
+    let r = find .result in
+    let k = find .ensures in
+    let e = store-line .ensures in
+    let s = store-line .result in
+    let h : r < length t = omega (arith, k .high, if1 .left) in
+    let same : s ≡ after (l .state) (take r t) = rw (← until .ensures) (e .same) in
     let few : s .vertices + s .elements ≤ l .state .vertices + l .state .elements + 1 =
     rw same (after-few (l .state) (take r t)) in
     rw (c .past .ensures) (
-      c .before .before .before .before .store-line .kept .1 .1 .0 ∙ l .inv .0,
-      c .before .before .before .before .store-line .kept .1 .1 .1 .0 ∙ l .inv .1,
+      store-line .kept .1 .1 .0 ∙ l .inv .0,
+      store-line .kept .1 .1 .1 .0 ∙ l .inv .1,
       simp length-drop (omega (arith, h, few, l .inv .2)),
       l .inv .3
-          ∙ records-line vertexRecords vertexPlace vertex-grows (l .state) t r k h _ _ s (rw (← c .before .before .before .before .before .before .before .until .ensures) (e .vertexTable)) same,
+          ∙ records-line vertexRecords vertexPlace vertex-grows (l .state) t r k h _ _ s (rw (← until .ensures) (e .vertexTable)) same,
       l .inv .4
-          ∙ records-line elementRecords elementPlace element-grows (l .state) t r k h _ _ s (rw (← c .before .before .before .before .before .before .before .until .ensures) (e .elementTable)) same,
+          ∙ records-line elementRecords elementPlace element-grows (l .state) t r k h _ _ s (rw (← until .ensures) (e .elementTable)) same,
     )
 
 same-length-3 : tie.Need-same-length-3 Inv-loop μ-loop

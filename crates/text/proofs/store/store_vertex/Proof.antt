@@ -1,5 +1,4 @@
 -- `text::store::store_vertex` stores what a line adds to the vertex table. Assumes nothing.
-use mathlib.Core.Path.{refl}
 use Rattle.text.specs.Line.{fieldsOf}
 use Rattle.text.specs.Records.{vertexRecords}
 use borrow.Author.Needs.{needs}
@@ -29,7 +28,10 @@ same-length c = search needs
 
 returns : tie.Need-returns
 unfolding vertexRecords fieldsOf
-returns c = rw (c .before .before .before .before .enum-told .given .1, ← c .before .before .before .from .ensures) (c .before .put-vertex .ensures)
+returns c =
+    let enum-told = c .before .before .before .before .enum-told in
+    let from = c .before .before .before .from in
+    rw (enum-told .given .1, ← from .ensures) (c .before .put-vertex .ensures)
 
 returns-2 : tie.Need-returns-2
 unfolding vertexRecords
