@@ -1,7 +1,7 @@
 -- What the record writers promise, in the words of specs/ alone: two answers that a contract allows are equal, a record is written where it
 -- has no fault and there is room, nothing else is touched, and how long a record is at most. A reader of writing starts here.
 -- Assumes nothing.
-use Prim.Native.Nat.{ℕ, suc, _^_, _≤_, _<_}
+use Prim.Native.Nat.{ℕ, suc, _+_, _*_, _^_, _≤_, _<_}
 use mathlib.Core.Path.{_≡_, refl, sym, ap, _∙_}
 use mathlib.Core.Bool.{Bool, true, false, cond, _&&_}
 use mathlib.Core.List.{List, [], _∷_}
@@ -17,7 +17,7 @@ use Rattle.faults.specs.declared.Finding.the-variants.{Clean}
 use Rattle.faults.specs.declared.Refusal.{Refusal}
 use Rattle.faults.proofs.Theorems.{answer-tells-verdict}
 use Rattle.volume.specs.Volume.{inRange}
-use Rattle.records.specs.Record.{recordFinding}
+use Rattle.records.specs.Record.{kindOf, recordFinding}
 use Rattle.text.specs.Constants.{minus, vertexLimit, tetrahedronLimit}
 use Rattle.text.specs.Written.{digitsOf, decimal, signOf, millimetresOf, coordinateText, closed, vertexLine, markOfKind, elementLine, endLine, refusalLine, inRoom, writeVertexVerdict, writeElementVerdict, writeEndVerdict}
 use Rattle.text.specs.Writing.{writeRefusalVerdict, writeVerdict, WriteDone}
@@ -175,6 +175,10 @@ decimal-short = D.decimal-short
 
 pub vertex-line-short : (x y z : ℤ) → (inRange x && (inRange y && inRange z)) ≡ true → length (closed (vertexLine x y z)) ≤ 30
 vertex-line-short = W.vertex-line-short
+
+-- TE at most 23 bytes, PY 28, PR 33, HX 43
+pub element-line-by-kind : (r : List ℕ) → recordFinding vertexLimit r ≡ Clean → length (closed (elementLine r)) ≤ 5 * kindOf r + 3
+element-line-by-kind = W.element-line-by-kind
 
 pub element-line-short : (r : List ℕ) → recordFinding vertexLimit r ≡ Clean → length (closed (elementLine r)) ≤ 43
 element-line-short = W.element-line-short

@@ -22,8 +22,8 @@ use Rattle.faults.specs.declared.Fault.the-variants as fault
 use Rattle.faults.proofs.Theorems.{faults, listed}
 use Rattle.faults.specs.declared.Refusal.{Refusal}
 use Rattle.faults.specs.declared.Finding.the-variants.{Clean}
-use Rattle.volume.specs.Volume.{inRange}
-use Rattle.volume.proofs.RangeLaws.{in-range-within}
+use Rattle.volume.specs.Volume.{inRange, pointInRange}
+use Rattle.volume.proofs.RangeLaws.{in-range-within, coordinates}
 use Rattle.records.specs.Record.{kindOf, usedOf, cornerAt, recordFinding}
 use Rattle.records.specs.Loops.{isNumber}
 use Rattle.records.proofs.RecordLaws.{clean-faultless, clean-whole, used-length, kind-small, corner-used}
@@ -128,18 +128,13 @@ coordinate-short z h =
     let d : length (decimal (m / 1000)) ≤ 3 = decimal-short 2 (m / 1000) (omega arith) in
     simp length-append (omega (arith, sign-short z))
 
-both : (a b : Bool) → a && b ≡ true → (a ≡ true) × (b ≡ true)
-both true b h = (refl, h)
-both false b h = (h, cc)
-
 -- `VX -500.000 -500.000 -500.000` and its byte 10
 pub vertex-line-short : (x y z : ℤ) → (inRange x && (inRange y && inRange z)) ≡ true → length (closed (vertexLine x y z)) ≤ 30
-unfolding vertexLine
+unfolding vertexLine pointInRange
 vertex-line-short x y z h =
-    let hx = both (inRange x) (inRange y && inRange z) h in
-    let hyz = both (inRange y) (inRange z) (hx .1) in
+    let c = coordinates (record { x = x; y = y; z = z }) h in
     rw (line-length (markBytes Vx) (coordinateText x ∷ coordinateText y ∷ coordinateText z ∷ []))
-    (simp length-append (omega (arith, coordinate-short x (hx .0), coordinate-short y (hyz .0), coordinate-short z (hyz .1))))
+    (simp length-append (omega (arith, coordinate-short x (c .on-x), coordinate-short y (c .on-y), coordinate-short z (c .on-z))))
 
 -- a vertex number: four digits
 numbers-short : (l : List ℕ) → T (every (isNumber vertexLimit) l) → length (gather (λ (f : List ℕ). space ∷ f) (map decimal l)) ≤ 5 * length l
@@ -150,14 +145,18 @@ numbers-short (v ∷ l) h =
     let d : length (decimal v) ≤ 4 = decimal-short 3 v (omega arith) in
     simp length-append (omega (arith, numbers-short l (and-right (isNumber vertexLimit v) (every (isNumber vertexLimit) l) h)))
 
--- `HX` with eight numbers of four digits and its byte 10
-pub element-line-short : (r : List ℕ) → recordFinding vertexLimit r ≡ Clean → length (closed (elementLine r)) ≤ 43
-unfolding elementLine
-element-line-short r h =
-    let f = clean-faultless vertexLimit r h in
-    rw (line-length (markBytes (markOfKind (kindOf r))) (map decimal (usedOf r)))
-    (omega
-    (arith, mark-short (markOfKind (kindOf r)), numbers-short (usedOf r) (f .inside), used-length r (clean-whole vertexLimit r h), kind-small (kindOf r) (f .kind)))
+module _ (r : List ℕ) (clean : recordFinding vertexLimit r ≡ Clean) where
+  -- a mark, as many numbers of four digits as the kind says, and the byte 10
+  pub element-line-by-kind : length (closed (elementLine r)) ≤ 5 * kindOf r + 3
+  unfolding elementLine
+  element-line-by-kind =
+      rw (line-length (markBytes (markOfKind (kindOf r))) (map decimal (usedOf r)))
+      (omega
+      (arith, mark-short (markOfKind (kindOf r)), numbers-short (usedOf r) (clean-faultless vertexLimit r clean .inside), corner-count r clean))
+
+  -- `HX` with eight numbers
+  pub element-line-short : length (closed (elementLine r)) ≤ 43
+  element-line-short = omega (arith, element-line-by-kind, kind-of-clean r clean)
 
 -- `EN 4096 6144` and its byte 10
 pub end-line-short : (v e : ℕ) → v ≤ vertexLimit → e ≤ tetrahedronLimit → length (closed (endLine v e)) ≤ 13
