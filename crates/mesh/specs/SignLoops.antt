@@ -1,4 +1,5 @@
--- Shapes that only the functions of the private module signs want; proofs/SignLaws.antt says that each is what the page's definitions give.
+-- Shapes that only the functions of the private module signs want; proofs/SiteLaws.antt says that an accepted table's vertices are sited, and
+-- proofs/SignLaws.antt what the counts have to do with the page's definitions.
 use mathlib.Core.Path.{_≡_}
 use mathlib.Core.Bool.{Bool, true, false, _&&_}
 use mathlib.Core.List.{List, [], _∷_}
@@ -25,7 +26,7 @@ use Rattle.mesh.specs.BlockLoops.{tetsIn, BlockIs}
 unfoldable pub sited : List ℤ → Vertex → Bool
 sited table v = ltb 0 v && (leb (vertexWidth * v) (length table) && pointInRange (pointAt table v))
 
--- all four of a tetrahedron are
+-- all four vertices of a tetrahedron are sited
 unfoldable pub sitedTet : List ℤ → Tet Vertex → Bool
 sitedTet table t = every (sited table) (ofTet t)
 
@@ -61,7 +62,7 @@ withSign Negative c = record { positive = c .positive; zero = c .zero; negative 
 
 -- ---- counts
 
--- counts of fewer than six tetrahedra
+-- each count is below six, so that one more of a block has room
 pub record Few (c : Tally) : Type 0 where
   pub positive : c .positive < 6
   pub zero : c .zero < 6
