@@ -64,13 +64,15 @@ vertexLine x y z = lineWith (markBytes Vx) (coordinateText x ∷ coordinateText 
 unfoldable pub markOfKind : ℕ → Mark
 markOfKind k = cond (eqb k 4) Te (cond (eqb k 5) Py (cond (eqb k 6) Pr (cond (eqb k 8) Hx Unknown)))
 
--- the kind of an element record, which is its corner count; its vertex numbers; its unused ones
+-- the kind of an element record, which is its corner count
 abbrev pub kindIn : List ℕ → ℕ
 kindIn r = getD r 0 0
 
+-- its vertex numbers
 abbrev pub cornersIn : List ℕ → List ℕ
 cornersIn r = take (kindIn r) (drop 1 r)
 
+-- its unused vertex numbers
 abbrev pub sparesIn : List ℕ → List ℕ
 sparesIn r = drop (kindIn r) (drop 1 r)
 
@@ -84,10 +86,11 @@ endLine v e = lineWith (markBytes En) (decimal v ∷ decimal e ∷ [])
 
 -- ---- the written file: all vertices, all elements, then EN with their counts
 
--- the lines of a vertex of the table, of an element of the table, in the reader's state before them
+-- the lines of a vertex record, in the reader's state before them
 unfoldable pub vertexLines : ReaderState → List ℤ → List (List ℕ)
 vertexLines state r = vertexLine (getD r 0 (pos 0)) (getD r 1 (pos 0)) (getD r 2 (pos 0)) ∷ []
 
+-- the lines of an element record, in the reader's state before them
 unfoldable pub elementLines : ReaderState → List ℕ → List (List ℕ)
 elementLines state r = elementLine r ∷ []
 
@@ -102,11 +105,13 @@ linesFrom f w state zero t = []
 linesFrom f w state (suc n) t =
     f state (take w t) ++ linesFrom f w (afterLines state (f state (take w t))) n (drop w t)
 
+-- the lines of the written file
 unfoldable pub fileLines : List ℤ → List ℕ → (vertices elements : ℕ) → List (List ℕ)
 fileLines vt et v e =
     let vs = linesFrom vertexLines vertexWidth start v vt in
     vs ++ (linesFrom elementLines elementWidth (afterLines start vs) e et ++ (endLine v e ∷ []))
 
+-- the written file, each line closed
 unfoldable pub writtenFile : List ℤ → List ℕ → (vertices elements : ℕ) → List ℕ
 writtenFile vt et v e = gather closed (fileLines vt et v e)
 
