@@ -24,10 +24,11 @@ minus = 45
 abbrev pub point : ℕ
 point = 46
 
--- the digits are the bytes from 0 to 9
+-- the digits are the bytes from this one, 0,
 abbrev pub digit0 : ℕ
 digit0 = 48
 
+-- to this one, 9
 abbrev pub digit9 : ℕ
 digit9 = 57
 
@@ -35,13 +36,15 @@ digit9 = 57
 abbrev pub fileLimit : ℕ
 fileLimit = 65536
 
--- at most 4,096 vertices, 1,024 elements, 6,144 tetrahedra
+-- at most 4,096 vertices
 abbrev pub vertexLimit : ℕ
 vertexLimit = limits.vertexLimit
 
+-- at most 1,024 elements
 abbrev pub elementLimit : ℕ
 elementLimit = limits.elementLimit
 
+-- at most 6,144 tetrahedra
 abbrev pub tetrahedronLimit : ℕ
 tetrahedronLimit = limits.tetrahedronLimit
 
@@ -49,10 +52,11 @@ tetrahedronLimit = limits.tetrahedronLimit
 abbrev pub coordinateLimit : ℕ
 coordinateLimit = volume.limit
 
--- one to six digits before the point, one to three after it
+-- one to six digits before the point
 abbrev pub wholeDigits : ℕ
 wholeDigits = 6
 
+-- one to three digits after it
 abbrev pub decimalDigits : ℕ
 decimalDigits = 3
 
@@ -68,12 +72,14 @@ vertexWidth = limits.vertexWidth
 abbrev pub elementWidth : ℕ
 elementWidth = fields.width
 
+-- an element has room for eight vertex numbers
 abbrev pub cornerWidth : ℕ
 cornerWidth = 8
 
--- a line starts with a two-byte mark; its fields stand behind that and a space
+-- a line starts with a two-byte mark
 abbrev pub markWidth : ℕ
 markWidth = 2
 
+-- its fields stand behind that and a space
 abbrev pub fieldsAt : ℕ
 fieldsAt = 3

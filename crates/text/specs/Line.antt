@@ -71,6 +71,7 @@ wants Hx = 8
 wants En = 2
 wants Unknown = 0
 
+-- VX is a vertex, TE PY PZ PR HX an element, EN the last line
 abbrev pub roleOf : Mark → Role
 roleOf Vx = VertexLine
 roleOf Te = ElementLine
@@ -187,6 +188,7 @@ afterRole state ElementLine = record { vertices = state .vertices; elements = st
 afterRole state EndLine = record { vertices = state .vertices; elements = state .elements; ended = true }
 afterRole state UnknownLine = state
 
+-- the state after a line, which its mark decides
 unfoldable pub after : ReaderState → List ℕ → ReaderState
 after state l = afterRole state (roleOf (markOf l))
 

@@ -49,11 +49,12 @@ decimals l =
 
 -- ---- a coordinate: an optional minus, then 0 or one to six digits not starting with 0, then optionally a point and one to three digits
 
--- the byte stands in the field
+-- the text is cut: the byte that it is cut at stands in it
 abbrev pub cut : Pieces → Bool
 cut (rest l) = false
 cut (piece l p) = true
 
+-- the number behind an optional minus
 abbrev pub signed : Bool → ℕ → ℤ
 signed true n = negℤ (pos n)
 signed false n = pos n
@@ -83,11 +84,13 @@ abbrev pub thousandthsIn : Coordinate → ℤ
 thousandthsIn (Thousandths z) = z
 thousandthsIn (Wrong f) = pos 0
 
+-- the thousandths that a coordinate field says
 unfoldable pub thousandthsOf : List ℕ → ℤ
 thousandthsOf l = thousandthsIn (coordinateOf l)
 
 -- ---- a vertex number or count: 0 or one to four digits not starting with 0
 
+-- a vertex number or count field
 unfoldable pub numberOf : List ℕ → Spelt
 numberOf l = whole numberDigits l
 
@@ -96,5 +99,6 @@ abbrev pub valueIn : Spelt → ℕ
 valueIn (Of n) = n
 valueIn Not = 0
 
+-- the number that such a field says
 unfoldable pub valueOf : List ℕ → ℕ
 valueOf l = valueIn (numberOf l)

@@ -73,9 +73,11 @@ abbrev pub ofAccepted : {A : Type 0} → Verdict (List ℕ) → List A → List 
 ofAccepted (accepted counts) records = records
 ofAccepted (refused r) records = []
 
+-- the vertices that reading stores
 unfoldable pub storedVertices : Rooms → List ℕ → List ℤ
 storedVertices rooms file = ofAccepted (fileVerdict rooms file) (recordsFrom vertexRecords start (linesOf file))
 
+-- the elements that reading stores
 unfoldable pub storedElements : Rooms → List ℕ → List ℕ
 storedElements rooms file = ofAccepted (fileVerdict rooms file) (recordsFrom elementRecords start (linesOf file))
 

@@ -82,6 +82,7 @@ endLine v e = lineWith (markBytes En) (decimal v ∷ decimal e ∷ [])
 unfoldable pub vertexLines : ReaderState → List ℤ → List (List ℕ)
 vertexLines state r = vertexLine (getD r 0 (pos 0)) (getD r 1 (pos 0)) (getD r 2 (pos 0)) ∷ []
 
+-- the lines of an element record, in the reader's state before them
 unfoldable pub elementLines : ReaderState → List ℕ → List (List ℕ)
 elementLines state r = elementLine r ∷ []
 
@@ -96,11 +97,13 @@ linesFrom f w state zero t = []
 linesFrom f w state (suc n) t =
     f state (take w t) ++ linesFrom f w (afterLines state (f state (take w t))) n (drop w t)
 
+-- the lines of the written file
 unfoldable pub fileLines : List ℤ → List ℕ → (vertices elements : ℕ) → List (List ℕ)
 fileLines vt et v e =
     let vs = linesFrom vertexLines vertexWidth start v vt in
     vs ++ (linesFrom elementLines elementWidth (afterLines start vs) e et ++ (endLine v e ∷ []))
 
+-- the written file, each line closed
 unfoldable pub writtenFile : List ℤ → List ℕ → (vertices elements : ℕ) → List ℕ
 writtenFile vt et v e = gather closed (fileLines vt et v e)
 
