@@ -1,24 +1,30 @@
--- What an accepted table is: its elements are few, proper and fit.
+-- What an accepted table is: its elements are few, proper and fit, and its records have no fault.
+-- And what tables the sign report accepts: besides, the vertex table is long enough, and its points are within the limits.
 -- Assumes nothing.
 use mathlib.Core.Path.{_≡_, refl, sym, ap, _∙_, subst}
-use mathlib.Core.Bool.{Bool, true, false, cond}
+use mathlib.Core.Bool.{Bool, true, false, cond, not}
 use mathlib.Core.List.{List, []}
-use Prim.Native.Nat.{ℕ, zero, suc, _*_, pred, _≤_, _<_}
+use Prim.Native.Nat.{ℕ, zero, suc, _+_, _*_, pred, _≤_, _<_}
 use native.Mathlib.Nat.{le-refl}
 use native.Mathlib.Omega.{arith}
 use lib.Dec.{T, ltb}
+use lib.IntN.{ℤ}
 use lib.ListN.{length}
-use borrow.Author.Tests.{ltb-true, ltb-false}
+use borrow.Author.Tests.{ltb-true, ltb-false, not-false}
 use Rattle.laws.specs.Words.{every}
-use Rattle.faults.specs.declared.Fault.the-variants.{Many, Room}
+use Rattle.laws.proofs.SearchLaws.{least-all}
+use Rattle.faults.specs.declared.Fault.the-variants.{Many, Room, Range}
+use Rattle.faults.specs.declared.Finding.the-variants.{Clean}
 use Rattle.faults.specs.declared.Refusal.{Refusal}
-use Rattle.faults.specs.Refusals.{Verdict, accepted, refused, refuse, refusePair, refuseIf}
+use Rattle.faults.specs.Refusals.{Verdict, accepted, refused, refuse, refusePair, refuseIf, andThen}
+use Rattle.volume.specs.Volume.{pointInRange, pointAt}
 use Rattle.solids.specs.Solids.{Element}
 use Rattle.solids.specs.Fit.{proper, fitting}
 use Rattle.records.specs.Record.{width, recordFinding, recordAt, firstElements}
 use Rattle.records.proofs.Theorems.{first-length, first-proper}
 use Rattle.mesh.specs.Judge.{mostVertices, mostElements, faultIn, badRecord, badElement, misfit, judged}
-use Rattle.mesh.proofs.JudgeLaws.{records-whole}
+use Rattle.mesh.specs.Signs.{vertexWidth, badPoint, signCounts, signsOf, isAccepted, acceptedTables}
+use Rattle.mesh.proofs.JudgeLaws.{record-clean, records-whole}
 use Rattle.mesh.proofs.FittingLaws.{none-bad-fitting}
 
 -- what was not refused passed the test, and is what came next
@@ -84,11 +90,17 @@ module _ (v n : ℕ) (t : List ℕ) (es : List Element) (e : judged v n t ≡ ac
   unfolding j
   no-bad-element = let h = ltb-false 0 j (p₅ .no) in omega arith
 
-  few : n ≤ mostElements
+  pub few-vertices : v ≤ mostVertices
+  few-vertices = ltb-false mostVertices v (p₁ .no)
+
+  pub few : n ≤ mostElements
   few = ltb-false mostElements n (p₂ .no)
 
-  long : width * n ≤ length t
+  pub long : width * n ≤ length t
   long = ltb-false (length t) (width * n) (p₃ .no)
+
+  pub clean : (k : ℕ) → k < n → recordFinding v (recordAt t k) ≡ Clean
+  clean = record-clean v t n no-bad-record
 
   pub accepted-elements : es ≡ firstElements t n
   unfolding last
@@ -102,3 +114,74 @@ module _ (v n : ℕ) (t : List ℕ) (es : List Element) (e : judged v n t ≡ ac
 
   pub accepted-fitting : T (fitting es)
   accepted-fitting = rw accepted-elements (none-bad-fitting t n no-bad-element)
+
+-- ---- tables that the sign report accepts
+
+-- what was accepted after a verdict: that was an acceptance, and what came next
+record Then {A B : Type 0} (j : Verdict A) (next : A → Verdict B) (x : B) : Type 0 where
+  value : A
+  was : j ≡ accepted value
+  rest : next value ≡ accepted x
+
+then : {A B : Type 0} (j : Verdict A) (next : A → Verdict B) (x : B) → andThen j next ≡ accepted x → Then j next x
+then (accepted a) next x e = record { value = a; was = refl; rest = e }
+then (refused r) next x e = let z : _≡_ {A = ℕ} 0 1 = cc in absurd (omega arith)
+
+-- the counts are within the limits, both tables are long enough, each point is within the limits, no record has a fault
+pub record SignAccepted (v n : ℕ) (t : List ℕ) (table : List ℤ) : Type 0 where
+  pub vertices : v ≤ mostVertices
+  pub elements : n ≤ mostElements
+  pub vertexRoom : vertexWidth * v ≤ length table
+  pub elementRoom : width * n ≤ length t
+  pub ranged : (k : ℕ) → k < v → pointInRange (pointAt table (k + 1)) ≡ true
+  pub clean : (k : ℕ) → k < n → recordFinding v (recordAt t k) ≡ Clean
+
+module _ (v n : ℕ) (t : List ℕ) (table : List ℤ) (counts : List ℕ) (e : signsOf v n t table ≡ accepted counts) where
+  bad : ℕ
+  bad = badPoint table v
+
+  counted : List Element → Verdict (List ℕ)
+  unfolding bad
+  counted es = refuseIf (ltb 0 bad) (refuse Range bad) (accepted (signCounts table es))
+
+  measured : List Element → Verdict (List ℕ)
+  unfolding counted
+  measured es = refuseIf (ltb (length table) (vertexWidth * v)) (refuse Room 0) (counted es)
+
+  q₁ : Then (judged v n t) measured counts
+  unfolding signsOf measured counted bad
+  q₁ = then (judged v n t) measured counts e
+
+  q₂ : Passed (ltb (length table) (vertexWidth * v)) (counted (q₁ .value)) counts
+  unfolding measured
+  q₂ = passed (ltb (length table) (vertexWidth * v)) (refuse Room 0) (counted (q₁ .value)) counts (q₁ .rest)
+
+  q₃ : Passed (ltb 0 bad) (accepted (signCounts table (q₁ .value))) counts
+  unfolding counted
+  q₃ = passed (ltb 0 bad) (refuse Range bad) (accepted (signCounts table (q₁ .value))) counts (q₂ .rest)
+
+  no-bad-point : badPoint table v ≡ 0
+  unfolding bad
+  no-bad-point = let h = ltb-false 0 bad (q₃ .no) in omega arith
+
+  point-ranged : (k : ℕ) → k < v → pointInRange (pointAt table (k + 1)) ≡ true
+  unfolding badPoint
+  point-ranged k h = not-false _ (least-all (λ j. not (pointInRange (pointAt table (j + 1)))) v no-bad-point k h)
+
+  signed : SignAccepted v n t table
+  signed = record {
+    vertices = few-vertices v n t (q₁ .value) (q₁ .was);
+    elements = few v n t (q₁ .value) (q₁ .was);
+    vertexRoom = ltb-false (length table) (vertexWidth * v) (q₂ .no);
+    elementRoom = long v n t (q₁ .value) (q₁ .was);
+    ranged = point-ranged;
+    clean = clean v n t (q₁ .value) (q₁ .was);
+  }
+
+pub sign-accepted : (v n : ℕ) (t : List ℕ) (table : List ℤ) → acceptedTables v n t table ≡ true → SignAccepted v n t table
+unfolding acceptedTables
+sign-accepted v n t table h = by (signsOf v n t table) refl h
+  where
+    by : (x : Verdict (List ℕ)) → signsOf v n t table ≡ x → isAccepted x ≡ true → SignAccepted v n t table
+    by (accepted counts) e h = signed v n t table counts e
+    by (refused r) e h = let z : _≡_ {A = ℕ} 0 1 = cc in absurd (omega arith)

@@ -43,7 +43,7 @@ digits-short (suc f) k =
 -- ---- enough digits
 
 -- without its last digit a number has one digit fewer
-tenth : (f k : ℕ) → k < 10 ^ suc f → k / 10 < 10 ^ f
+pub tenth : (f k : ℕ) → k < 10 ^ suc f → k / 10 < 10 ^ f
 tenth f k h = div-lt-iff-lt-mul {k = 10} {x = k} {y = 10 ^ f} (omega arith) .1 (rw pow-suc at h)
 
 by-digits : {x y : List ℕ} (z : List ℕ) (k : ℕ) (b : Bool) → ltb k 10 ≡ b → (10 ≤ k → x ≡ y) → cond b z x ≡ cond b z y

@@ -26,7 +26,7 @@ unfolding areFields
 none-wanted (rest l) = refl
 none-wanted (piece l p) = refl
 
-some-bytes : (l : List ℕ) → (length l ≡ 0 → ⊥) → some l ≡ true
+pub some-bytes : (l : List ℕ) → (length l ≡ 0 → ⊥) → some l ≡ true
 some-bytes [] h = absurd (h refl)
 some-bytes (x ∷ l) h = refl
 

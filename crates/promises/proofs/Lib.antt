@@ -1,0 +1,5 @@
+-- The promises that reach across the rooms.
+pub mod ReadBackNumbers
+pub mod ReadBackLines
+pub mod ReadBackFile
+pub mod ReadBackCalls
