@@ -2,4 +2,7 @@
 pub mod ReadBackNumbers
 pub mod ReadBackLines
 pub mod ReadBackFile
+pub mod ReadBackStored
 pub mod ReadBackCalls
+pub mod ReadBackAgain
+pub mod ReadBack

@@ -3,8 +3,8 @@
 use Prim.Native.Nat.{ℕ, zero, suc, _+_, _-_, _*_, _≤_, _<_}
 use native.Mathlib.Nat.{le-trans, mul-suc, mul-zero, add-comm}
 use native.Mathlib.Omega.{arith}
-use mathlib.Core.Path.{_≡_, refl, sym, ap, ap₂, _∙_, subst}
-use mathlib.Core.Bool.{Bool, true, false, _&&_}
+use mathlib.Core.Path.{_≡_, refl, sym, ap, ap₂, _∙_}
+use mathlib.Core.Bool.{true}
 use mathlib.Core.List.{List, [], _∷_, _++_, append-nil}
 use lib.IntN.{ℤ, pos}
 use lib.ListN.{length, getD, take, drop}
@@ -15,9 +15,8 @@ use Rattle.laws.specs.Lent.{laid}
 use Rattle.laws.proofs.GatherLaws.{gather-append}
 use Rattle.laws.proofs.EveryLaws.{every-implies}
 use Rattle.laws.proofs.TestLaws.{and-left, and-right, and-both}
-use Rattle.faults.specs.Refusals.{accepted}
 use Rattle.faults.specs.declared.Finding.the-variants.{Clean}
-use Rattle.volume.specs.Volume.{inRange, pointAt, pointInRange}
+use Rattle.volume.specs.Volume.{pointAt, pointInRange}
 use Rattle.volume.specs.declared.Point.{Point}
 use Rattle.volume.proofs.RangeLaws.{coordinates}
 use Rattle.records.specs.Record.{usedOf, recordFinding, recordAt}
@@ -26,19 +25,16 @@ use Rattle.records.proofs.RecordLaws.{clean-faultless, faultless-clean}
 use Rattle.mesh.specs.Signs.{acceptedTables}
 use Rattle.mesh.proofs.AcceptedLaws.{sign-accepted}
 use Rattle.text.specs.Constants.{fileLimit, vertexLimit, vertexWidth, elementWidth}
-use Rattle.text.specs.Written.{closed, vertexLine, elementLine, endLine, vertexLines, elementLines, afterLines, linesFrom, fileLines, writtenFile, writeVertexVerdict}
-use Rattle.text.specs.Writing.{WriteDone}
+use Rattle.text.specs.Written.{closed, vertexLine, elementLine, endLine, vertexLines, elementLines, afterLines, linesFrom, fileLines, writtenFile}
 use Rattle.text.specs.File.{start}
-use Rattle.text.specs.Records.{roomsOf, storedVertices, storedElements, verdictOf, ReadDone}
+use Rattle.text.specs.Records.{roomsOf, verdictOf, ReadDone}
 use Rattle.text.specs.declared.terms.ReaderState.{ReaderState}
-use Rattle.text.specs.declared.write.WriteAnswer.{WriteAnswer}
-use Rattle.text.specs.declared.write.WriteAnswer.the-variants as write
 use Rattle.text.specs.declared.ReadAnswer.{ReadAnswer}
 use Rattle.text.specs.declared.ReadAnswer.the-variants as read
 use Rattle.text.proofs.WriteTheorems as W
 use Rattle.text.proofs.Theorems.{read-unique}
 use Rattle.promises.specs.ReadBack.{Call, Calls, vertexText, elementText, endText, Called, bytesOf, wrote, joined, together, CallDone, SameTables, ReadsBack}
-use Rattle.promises.proofs.ReadBackFile.{Ranged, vertexAt, Sound, file-accepted, file-vertices, file-elements}
+use Rattle.promises.proofs.ReadBackFile.{Ranged, vertexAt, Sound, file-back}
 
 -- ---- texts put together
 
@@ -63,7 +59,7 @@ module _ {A : Type 0} (lines : ReaderState → List A → List (List ℕ)) (w : 
 
 -- ---- a vertex of a table, by its record and by its number
 
-vertex-point : (table : List ℤ) (k : ℕ)
+pub vertex-point : (table : List ℤ) (k : ℕ)
     → pointAt table (k + 1) ≡ record { x = getD (vertexAt table k) 0 (pos 0); y = getD (vertexAt table k) 1 (pos 0); z = getD (vertexAt table k) 2 (pos 0) }
 unfolding pointAt
 vertex-point table k =
@@ -188,11 +184,9 @@ module _ (v n : ℕ) (t : List ℕ) (table : List ℤ) (sound : Sound v n t tabl
   module _ (vertices : List ℤ) (elements : List ℕ) (vertexRoom : vertexWidth * v ≤ length vertices) (elementRoom : elementWidth * n ≤ length elements) (short : length (writtenFile table t v n) ≤ fileLimit) where
     expected : ReadDone (writtenFile table t v n) vertices elements (read.Done (record { vertices = v; elements = n })) (laid (take (vertexWidth * v) table) vertices) (laid (take (elementWidth * n) t) elements)
     unfolding verdictOf
-    expected = record {
-      answer = rw (file-accepted (roomsOf vertices elements) v n t table sound vertexRoom elementRoom short);
-      vertexTable = rw (file-vertices (roomsOf vertices elements) v n t table sound vertexRoom elementRoom short);
-      elementTable = rw (file-elements (roomsOf vertices elements) v n t table sound vertexRoom elementRoom short);
-    }
+    expected =
+        let b = file-back (roomsOf vertices elements) v n t table sound vertexRoom elementRoom short in
+        record { answer = rw (b .verdict); vertexTable = rw (b .vertices); elementTable = rw (b .elements) }
 
     same-tables : (r : ReadAnswer) (vertices′ : List ℤ) (elements′ : List ℕ) → ReadDone (writtenFile table t v n) vertices elements r vertices′ elements′
         → SameTables v n t table vertices elements r vertices′ elements′

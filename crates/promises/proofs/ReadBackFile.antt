@@ -2,32 +2,30 @@
 -- and so is the whole file. Assumes nothing.
 use Prim.Native.Nat.{ℕ, zero, suc, _+_, _*_, _≤_, _<_}
 use native.Mathlib.Nat.{add-zero, zero-add, mul-suc, mul-zero, add-comm}
-use native.Mathlib.Numerals.{add-one}
 use native.Mathlib.Omega.{arith}
-use mathlib.Core.Path.{_≡_, refl, sym, ap, ap₂, _∙_, subst}
-use mathlib.Core.Bool.{Bool, true, false}
+use mathlib.Core.Path.{_≡_, refl, sym, ap, _∙_, subst}
+use mathlib.Core.Bool.{true}
 use mathlib.Core.List.{List, [], _∷_, _++_, append-nil, append-assoc}
 use lib.IntN.{ℤ, pos}
 use lib.ListN.{length, getD, take, drop, length-append, length-drop}
-use lib.Seq.{drop-cons, drop-drop, take-add, length-take-le}
+use lib.Seq.{drop-drop, take-add, length-take-le}
 use borrow.Author.Tests.{le-ltb}
 use Rattle.laws.specs.Pieces.{Pieces, rest, piece, split}
 use Rattle.laws.specs.Words.{gather}
 use Rattle.laws.proofs.PieceLaws.{Free, split-joined}
-use Rattle.laws.proofs.GatherLaws.{gather-append}
-use Rattle.faults.specs.Refusals.{Verdict, accepted}
+use Rattle.faults.specs.Refusals.{accepted}
 use Rattle.faults.specs.declared.Finding.the-variants.{Clean}
-use Rattle.volume.specs.Volume.{inRange, pointAt, pointInRange}
-use Rattle.volume.proofs.RangeLaws.{coordinates}
+use Rattle.volume.specs.Volume.{inRange}
 use Rattle.records.specs.Record.{recordFinding, recordAt}
 use Rattle.text.specs.Constants.{lineEnd, fileLimit, vertexLimit, elementLimit, vertexWidth, elementWidth}
 use Rattle.text.specs.Line.{after}
 use Rattle.text.specs.File.{start, linesOf, atEnd, fileFrom, fileVerdict}
 use Rattle.text.specs.Records.{vertexRecords, elementRecords, recordsFrom, storedVertices, storedElements}
-use Rattle.text.specs.Written.{closed, vertexLine, elementLine, endLine, vertexLines, elementLines, afterLines, linesFrom, fileLines, writtenFile}
+use Rattle.text.specs.Written.{closed, vertexLines, elementLines, afterLines, linesFrom, fileLines, writtenFile}
 use Rattle.text.specs.declared.terms.ReaderState.{ReaderState}
 use Rattle.text.specs.declared.terms.Rooms.{Rooms}
-use Rattle.promises.proofs.ReadBackLines.{Each, LineRead, reading, ended, vertex-read, element-read, end-read}
+use Rattle.promises.specs.ReadBack.{reading, ended, FileBack}
+use Rattle.promises.proofs.ReadBackLines.{Each, LineRead, vertex-read, element-read, end-read}
 
 -- ---- lines that are read one after the other
 
@@ -73,9 +71,9 @@ module _ (rooms : Rooms) where
   unfolding fileFrom recordsFrom afterLines
   one-read r = record {
     unbroken = (r .unbroken, tt);
-    verdict = λ n p. rw (r .verdict);
-    vertices = λ p. rw (r .vertices, r .same);
-    elements = λ p. rw (r .elements, r .same);
+    verdict = λ n p. rw (r .back .verdict);
+    vertices = λ p. rw (r .back .vertices, r .same);
+    elements = λ p. rw (r .back .elements, r .same);
     same = r .same;
   }
 
@@ -219,18 +217,20 @@ module _ (rooms : Rooms) (v n : ℕ) (t : List ℕ) (table : List ℤ) (sound : 
   file-cut = lines-cut (fileLines table t v n) (lines .unbroken)
 
   module _ (short : length (writtenFile table t v n) ≤ fileLimit) where
-    -- it is accepted with the counts that it was written with
-    pub file-accepted : fileVerdict rooms (writtenFile table t v n) ≡ accepted (v ∷ n ∷ [])
+    -- accepted with the counts that it was written with
+    file-accepted : fileVerdict rooms (writtenFile table t v n) ≡ accepted (v ∷ n ∷ [])
     unfolding fileVerdict fileFrom atEnd
     file-accepted =
         rw (le-ltb fileLimit (length (writtenFile table t v n)) short)
         (ap (fileFrom rooms start 1) file-cut ∙ lines .verdict 1 (rest []))
 
-    -- and its records are those that it was written from
-    pub file-vertices : storedVertices rooms (writtenFile table t v n) ≡ take (vertexWidth * v) table
+    file-vertices : storedVertices rooms (writtenFile table t v n) ≡ take (vertexWidth * v) table
     unfolding storedVertices recordsFrom
     file-vertices = rw file-accepted (ap (recordsFrom vertexRecords start) file-cut ∙ lines .vertices (rest []) ∙ append-nil _)
 
-    pub file-elements : storedElements rooms (writtenFile table t v n) ≡ take (elementWidth * n) t
+    file-elements : storedElements rooms (writtenFile table t v n) ≡ take (elementWidth * n) t
     unfolding storedElements recordsFrom
     file-elements = rw file-accepted (ap (recordsFrom elementRecords start) file-cut ∙ lines .elements (rest []) ∙ append-nil _)
+
+    pub file-back : FileBack rooms v n t table
+    file-back = record { verdict = file-accepted; vertices = file-vertices; elements = file-elements }

@@ -3,7 +3,7 @@
 use Prim.Native.Nat.{ℕ, zero, suc, _+_, _*_, _^_, _≤_, _<_}
 use native.Mathlib.Omega.{arith}
 use mathlib.Core.Path.{_≡_, refl, sym, ap, _∙_, subst}
-use mathlib.Core.Bool.{Bool, true, false, _&&_}
+use mathlib.Core.Bool.{Bool, true, false}
 use mathlib.Core.List.{List, [], _∷_, _++_, map, append-nil}
 use lib.Dec.{T, eqb, ltb, leb, eqb→eq, ltb→lt, leb→le}
 use lib.IntN.{ℤ}
@@ -14,13 +14,12 @@ use Rattle.laws.specs.Words.{gather, every}
 use Rattle.laws.proofs.PieceLaws.{Free, split-joined, split-free}
 use Rattle.laws.proofs.TestLaws.{and-left, and-right}
 use Rattle.volume.specs.Volume.{inRange}
-use Rattle.records.specs.Record.{kindOf, numbersOf, usedOf, spareOf, isKind, recordFinding}
+use Rattle.records.specs.Record.{kindOf, usedOf, spareOf, isKind, recordFinding}
 use Rattle.records.specs.Loops.{isNumber}
-use Rattle.records.proofs.RecordLaws.{IsOne, is-4, is-5, is-6, is-8, which-kind, kind-small, used-length, record-parts, clean-faultless, clean-whole}
+use Rattle.records.proofs.RecordLaws.{IsOne, is-4, is-5, is-6, is-8, which-kind, used-length, record-parts, clean-faultless, clean-whole}
 use Rattle.faults.specs.declared.Finding.the-variants.{Clean}
-use Rattle.text.specs.Constants.{lineEnd, space, minus, digit0, vertexLimit, elementLimit, vertexWidth, elementWidth, cornerWidth, numberDigits, fieldsAt, markWidth}
-use Rattle.text.specs.Number.{coordinateOf, numberOf, valueOf, whole}
-use Rattle.text.specs.Line as line
+use Rattle.text.specs.Constants.{lineEnd, space, vertexLimit, elementLimit, vertexWidth, elementWidth, cornerWidth, numberDigits, fieldsAt, markWidth}
+use Rattle.text.specs.Number.{numberOf, valueOf, whole}
 use Rattle.text.specs.Line.{markBytes, markWith, markOf, wants, roleOf, fieldsOf, areFields, firstOf, fieldVerdict, fieldsVerdict, badMark, tooMany, badShape, noRoom, badCounts, afterRole, after, lineVerdict}
 use Rattle.text.specs.Records.{vertexRecord, tipFirst, cornerFields, elementRecord, vertexRecords, elementRecords}
 use Rattle.text.specs.Written.{decimal, coordinateText, lineWith, vertexLine, markOfKind, elementLine, endLine}
@@ -31,8 +30,8 @@ use Rattle.text.specs.declared.terms.Role.the-variants.{VertexLine, ElementLine
 use Rattle.text.specs.declared.terms.Judged.the-variants.{Passed}
 use Rattle.text.specs.declared.terms.ReaderState.{ReaderState}
 use Rattle.text.specs.declared.terms.Rooms.{Rooms}
-use Rattle.text.specs.declared.terms.Line.the-variants.{Next}
 use Rattle.text.proofs.FieldLaws.{some-bytes}
+use Rattle.promises.specs.ReadBack.{reading, ended, LineBack}
 use Rattle.promises.proofs.ReadBackNumbers.{free-append, decimal-free, decimal-some, number-back, value-back, coordinate-back, thousandths-back, coordinate-free, coordinate-some}
 
 -- ---- fields
@@ -114,13 +113,20 @@ space-first (x ∷ y ∷ z ∷ a) l h = absurd (omega arith)
 
 -- ---- a line that is read
 
--- it is accepted, adds vs to the vertex table and es to the element table, and leads to the next state
+-- it reads back, holds no byte 10, and the state after it is the next
 pub record LineRead (rooms : Rooms) (state : ReaderState) (l : List ℕ) (vs : List ℤ) (es : List ℕ) (next : ReaderState) : Type 0 where
+  pub back : LineBack rooms state l vs es next
   pub unbroken : Free lineEnd l
-  pub verdict : lineVerdict rooms state true l ≡ Next next
-  pub vertices : vertexRecords state (roleOf (markOf l)) l ≡ vs
-  pub elements : elementRecords state (roleOf (markOf l)) l ≡ es
   pub same : after state l ≡ next
+
+-- the same records in other words
+read-as : {rooms : Rooms} {state next : ReaderState} {l : List ℕ} {vs ws : List ℤ} {es fs : List ℕ} → LineRead rooms state l vs es next → vs ≡ ws → es ≡ fs
+    → LineRead rooms state l ws fs next
+read-as r e f = record {
+  back = record { verdict = r .back .verdict; vertices = r .back .vertices ∙ e; elements = r .back .elements ∙ f };
+  unbroken = r .unbroken;
+  same = r .same;
+}
 
 -- what a line needs to be read, by its mark and its fields
 record Needs (rooms : Rooms) (state : ReaderState) (m : Mark) (f : List ℕ) (fs : List (List ℕ)) : Type 0 where
@@ -157,20 +163,14 @@ module _ (rooms : Rooms) (state : ReaderState) (m : Mark) (f : List ℕ) (fs : L
   line-read : LineRead rooms state whole-line (vertexRecords state (roleOf m) whole-line) (elementRecords state (roleOf m) whole-line) (afterRole state (roleOf m))
   unfolding lineVerdict after lineWith
   line-read = record {
+    back = record {
+      verdict = rw (its-mark, its-shape, its-fields, n .allowed, n .few, fields-pass state (roleOf m) f fs (n .passed), n .room, n .counts, n .running);
+      vertices = rw its-mark;
+      elements = rw its-mark;
+    };
     unbroken = free-append lineEnd (markBytes m) (spaced (f ∷ fs)) (mark-unbroken m) (spaced-unbroken (f ∷ fs) (n .fields));
-    verdict = rw (its-mark, its-shape, its-fields, n .allowed, n .few, fields-pass state (roleOf m) f fs (n .passed), n .room, n .counts, n .running);
-    vertices = rw its-mark;
-    elements = rw its-mark;
     same = rw its-mark;
   }
-
--- ---- the reader's state after v vertices and e elements
-
-abbrev pub reading : (v e : ℕ) → ReaderState
-reading v e = record { vertices = v; elements = e; ended = false }
-
-abbrev pub ended : (v e : ℕ) → ReaderState
-ended v e = record { vertices = v; elements = e; ended = true }
 
 -- ---- a vertex
 
@@ -206,17 +206,10 @@ module _ (rooms : Rooms) (v : ℕ) (x y z : ℤ) (hx : inRange x ≡ true) (hy :
       → LineRead rooms (reading v 0) (vertexLine x y z) (x ∷ y ∷ z ∷ []) [] (reading (v + 1) 0)
   unfolding vertexLine vertexRecords elementRecords vertexRecord firstOf afterRole
   vertex-read few room =
+      let fs = coordinateText y ∷ coordinateText z ∷ [] in
       let n = vertex-needs few room in
-      let r = line-read rooms (reading v 0) Vx (coordinateText x) (coordinateText y ∷ coordinateText z ∷ []) n in
-      record {
-        unbroken = r .unbroken;
-        verdict = r .verdict;
-        vertices =
-            r .vertices
-            ∙ rw (its-fields rooms (reading v 0) Vx (coordinateText x) (coordinateText y ∷ coordinateText z ∷ []) n, thousandths-back x hx, thousandths-back y hy, thousandths-back z hz);
-        elements = r .elements;
-        same = r .same;
-      }
+      read-as (line-read rooms (reading v 0) Vx (coordinateText x) fs n)
+      (rw (its-fields rooms (reading v 0) Vx (coordinateText x) fs n, thousandths-back x hx, thousandths-back y hy, thousandths-back z hz)) refl
 
 -- ---- an element
 
@@ -323,19 +316,11 @@ module _ (rooms : Rooms) (v e : ℕ) (fewVertices : v ≤ vertexLimit) (few : e 
       numbers-line : LineRead rooms (reading v e) (lineWith (markBytes m) (map decimal (k ∷ l))) [] (suc (length l) ∷ k ∷ (l ++ zs)) (reading v (e + 1))
       unfolding vertexRecords elementRecords elementRecord afterRole
       numbers-line =
-          let r = line-read rooms (reading v e) m (decimal k) (map decimal l) element-needs in
-          let s = rw (mark .role) at r in
-          record {
-            unbroken = s .unbroken;
-            verdict = s .verdict;
-            vertices = s .vertices;
-            elements =
-                s .elements
-                ∙ rw (its-mark rooms (reading v e) m (decimal k) (map decimal l) element-needs, its-fields rooms (reading v e) m (decimal k) (map decimal l) element-needs, mark .counted, mark .plain)
-                (ap (λ (q : List ℕ). suc (length l) ∷ map (λ j. getD q j 0) (cornerFields false)) (numbers-read v fewVertices cornerWidth k l zs wide inside zeros)
-                ∙ ap (λ (q : List ℕ). suc (length l) ∷ q) (eight (k ∷ (l ++ zs)) (rw (length-append l zs) (omega arith))));
-            same = s .same;
-          }
+          let n = element-needs in
+          read-as (rw (mark .role) at (line-read rooms (reading v e) m (decimal k) (map decimal l) n)) refl
+          (rw (its-mark rooms (reading v e) m (decimal k) (map decimal l) n, its-fields rooms (reading v e) m (decimal k) (map decimal l) n, mark .counted, mark .plain)
+          (ap (λ (q : List ℕ). suc (length l) ∷ map (λ j. getD q j 0) (cornerFields false)) (numbers-read v fewVertices cornerWidth k l zs wide inside zeros)
+          ∙ ap (λ (q : List ℕ). suc (length l) ∷ q) (eight (k ∷ (l ++ zs)) (rw (length-append l zs) (omega arith)))))
 
   no-corners : (kind : ℕ) → 0 ≡ kind → T (isKind kind) → ⊥
   no-corners kind q h = go (which-kind kind h)

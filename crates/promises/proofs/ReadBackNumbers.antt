@@ -2,19 +2,19 @@
 -- And which bytes do not stand among them. Assumes nothing.
 use Prim.Native.Nat.{ℕ, zero, suc, _+_, _-_, _*_, _/_, _%_, _^_, _≤_, _<_}
 use native.Mathlib.Omega.{arith}
-use mathlib.Core.Path.{_≡_, refl, sym, ap, _∙_}
+use mathlib.Core.Path.{_≡_, refl, ap, _∙_}
 use mathlib.Core.Bool.{Bool, true, false, cond}
 use mathlib.Core.List.{List, [], _∷_, _++_}
-use lib.Dec.{eqb, leb, ltb}
+use lib.Dec.{eqb, ltb}
 use lib.IntN.{ℤ, pos, negsuc, natAbs}
-use lib.ListN.{length, getD, drop, length-append, List·getD-append}
-use borrow.Author.Tests.{lt-ltb, le-ltb, le-leb, ltb-true, ltb-false, eq-eqb, ne-eqb}
-use Rattle.laws.specs.Pieces.{rest, piece, split}
+use lib.ListN.{length, getD, length-append, List·getD-append}
+use borrow.Author.Tests.{le-leb, ltb-true, ltb-false, ne-eqb}
+use Rattle.laws.specs.Pieces.{split}
 use Rattle.laws.proofs.PieceLaws.{Free, split-joined, split-free}
 use Rattle.volume.specs.Volume.{inRange}
 use Rattle.volume.proofs.RangeLaws.{in-range-within}
-use Rattle.text.specs.Constants.{comma, minus, point, digit0, digit9, coordinateLimit, wholeDigits, numberDigits}
-use Rattle.text.specs.Number.{appended, onto, spelt, whole, times, decimals, signed, millimetres, unsigned, coordinateOf, thousandthsOf, numberOf, valueOf}
+use Rattle.text.specs.Constants.{comma, minus, point, digit0, digit9, coordinateLimit, numberDigits}
+use Rattle.text.specs.Number.{appended, onto, spelt, whole, decimals, signed, millimetres, unsigned, coordinateOf, thousandthsOf, numberOf, valueOf}
 use Rattle.text.specs.Written.{digit, digitsOf, decimal, signOf, millimetresOf, coordinateText}
 use Rattle.text.specs.declared.terms.Spelt.{Spelt}
 use Rattle.text.specs.declared.terms.Spelt.the-variants.{Of, Not}

@@ -3,21 +3,27 @@
 --   calls    those that write a file: one for each vertex, one for each element, one for EN
 use Prim.Native.Nat.{ℕ, zero, suc, _+_, _*_, _≤_, _<_}
 use mathlib.Core.Path.{_≡_}
+use mathlib.Core.Bool.{true, false}
 use mathlib.Core.List.{List, [], _∷_, _++_}
 use lib.IntN.{ℤ}
 use lib.ListN.{length, take}
 use Rattle.laws.specs.Lent.{laid}
+use Rattle.faults.specs.Refusals.{accepted}
 use Rattle.volume.specs.Volume.{pointAt}
 use Rattle.records.specs.Record.{recordAt}
 use Rattle.text.specs.Constants.{fileLimit, vertexWidth, elementWidth}
 use Rattle.text.specs.Written.{closed, vertexLine, elementLine, endLine, writtenFile, writeVertexVerdict, writeElementVerdict, writeEndVerdict}
 use Rattle.text.specs.Writing.{WriteDone}
-use Rattle.text.specs.Records.{ReadDone}
+use Rattle.text.specs.Line.{markOf, roleOf, lineVerdict}
+use Rattle.text.specs.File.{fileVerdict}
+use Rattle.text.specs.Records.{vertexRecords, elementRecords, storedVertices, storedElements, ReadDone}
+use Rattle.text.specs.declared.terms.ReaderState.{ReaderState}
+use Rattle.text.specs.declared.terms.Rooms.{Rooms}
+use Rattle.text.specs.declared.terms.Line.the-variants.{Next}
 use Rattle.text.specs.declared.write.WriteAnswer.{WriteAnswer}
 use Rattle.text.specs.declared.write.WriteAnswer.the-variants as write
 use Rattle.text.specs.declared.ReadAnswer.{ReadAnswer}
 use Rattle.text.specs.declared.ReadAnswer.the-variants as read
-use Rattle.text.specs.declared.ReadCounts.{ReadCounts}
 
 -- ---- the calls that write a file
 
@@ -74,6 +80,29 @@ joined (suc n) f = f 0 ++ joined n (λ k. f (suc k))
 -- what they wrote put together: all vertices, all elements, then EN
 unfoldable pub together : (vertices elements : ℕ) → Calls → List ℕ
 together v n calls = joined v (λ k. wrote (calls .vertex k)) ++ (joined n (λ k. wrote (calls .element k)) ++ wrote (calls .end))
+
+-- ---- a line that reads back
+
+-- the reader's state after v vertices and n elements, before EN and after it
+abbrev pub reading : (vertices elements : ℕ) → ReaderState
+reading v n = record { vertices = v; elements = n; ended = false }
+
+abbrev pub ended : (vertices elements : ℕ) → ReaderState
+ended v n = record { vertices = v; elements = n; ended = true }
+
+-- a line is accepted in a state, leads to the next state, and adds vs to the vertex table and es to the element table
+pub record LineBack (rooms : Rooms) (state : ReaderState) (l : List ℕ) (vs : List ℤ) (es : List ℕ) (next : ReaderState) : Type 0 where
+  pub verdict : lineVerdict rooms state true l ≡ Next next
+  pub vertices : vertexRecords state (roleOf (markOf l)) l ≡ vs
+  pub elements : elementRecords state (roleOf (markOf l)) l ≡ es
+
+-- ---- a file that reads back
+
+-- the written file is accepted with its counts, and its records are those of the tables that it was written from
+pub record FileBack (rooms : Rooms) (v n : ℕ) (t : List ℕ) (table : List ℤ) : Type 0 where
+  pub verdict : fileVerdict rooms (writtenFile table t v n) ≡ accepted (v ∷ n ∷ [])
+  pub vertices : storedVertices rooms (writtenFile table t v n) ≡ take (vertexWidth * v) table
+  pub elements : storedElements rooms (writtenFile table t v n) ≡ take (elementWidth * n) t
 
 -- ---- what demand 2 promises
 

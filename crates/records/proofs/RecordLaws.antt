@@ -181,7 +181,7 @@ not-stray limit v e = go (eqb v 0) refl (ltb limit v) refl e
         and-both (ltb 0 v) (leb v limit)
         (lt→ltb 0 v (let n = eqb-false v 0 p in omega arith)) (le→leb v limit (ltb-false limit v q))
 
-stays : (limit v : ℕ) → T (isNumber limit v) → strayVertex limit v ≡ false
+pub stays : (limit v : ℕ) → T (isNumber limit v) → strayVertex limit v ≡ false
 stays limit v h =
     let low = ltb→lt 0 v (and-left (ltb 0 v) (leb v limit) h) in
     let high = leb→le v limit (and-right (ltb 0 v) (leb v limit) h) in
