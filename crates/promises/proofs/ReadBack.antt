@@ -1,8 +1,9 @@
 -- What is written reads back: demand 2, in the words of specs/ alone. A reader starts here.
 --   written-reads-back      A file written from accepted tables, if within the reader's limits, reads back to the same tables.
 --   accepted-limits         Accepted tables are within the limits of vertices and elements: what is left to ask is the file's length.
---   sign-report-accepts     Accepted tables are those to which the sign report says Done;
---   accepted-by-report      and it says so to no other.
+--   accepted-apart          In accepted tables no vertex stands twice in an element.
+--   sign-report-accepts     Tables to which the sign report says Done are accepted,
+--   accepted-by-report      and to accepted tables it says nothing else.
 --   same-vertex             Each vertex that was read is that which was written,
 --   same-element            and so is each element.
 --   file-reads-back         The same of the definitions alone, whoever wrote the file.
@@ -23,12 +24,14 @@ use mathlib.Core.List.{List, [], _∷_}
 use lib.IntN.{ℤ, pos}
 use lib.ListN.{length, getD}
 use Rattle.laws.specs.Words.{distinct}
+use Rattle.laws.proofs.TestLaws.{T-true}
 use Rattle.faults.specs.declared.Finding.the-variants.{Clean, Found}
 use Rattle.faults.specs.declared.Fault.the-variants.{Repeat}
 use Rattle.faults.proofs.Theorems.{answer-tells-verdict}
 use Rattle.volume.specs.Volume.{inRange, pointAt}
 use Rattle.volume.specs.declared.Point.{Point}
 use Rattle.records.specs.Record.{usedOf, recordFinding, recordAt}
+use Rattle.records.proofs.RecordLaws.{clean-faultless}
 use Rattle.mesh.specs.Signs.{signsOf, acceptedTables, signVerdict, SignDone}
 use Rattle.mesh.specs.declared.SignAnswer.{SignAnswer}
 use Rattle.mesh.specs.declared.SignAnswer.the-variants as sign
@@ -73,6 +76,11 @@ module _ (v n : ℕ) (t : List ℕ) (table : List ℤ) (accepts : acceptedTables
   pub accepted-limits : (v ≤ vertexLimit) × (n ≤ elementLimit)
   accepted-limits = let s = accepted-sound v n t table accepts in (s .vertices, s .elements)
 
+  -- in an accepted table no vertex stands twice in an element
+  pub accepted-apart : (k : ℕ) → k < n → distinct (usedOf (recordAt t k)) ≡ true
+  accepted-apart k h =
+      T-true (distinct (usedOf (recordAt t k))) (clean-faultless v (recordAt t k) (accepted-sound v n t table accepts .clean k h) .apart)
+
   -- ---- a file written from accepted tables reads back to the same tables
 
   pub written-reads-back : (calls : Calls) → Called v n t table calls → ReadsBack v n t table calls
@@ -83,20 +91,29 @@ module _ (v n : ℕ) (t : List ℕ) (table : List ℤ) (accepts : acceptedTables
   file-reads-back rooms = file-back rooms v n t table (accepted-sound v n t table accepts)
 
   -- the tables that were read hold each vertex, counted from 1, and each element, from 0
-  module _ (vertices : List ℤ) (elements : List ℕ) (r : ReadAnswer) (vertices′ : List ℤ) (elements′ : List ℕ) (same : SameTables v n t table vertices elements r vertices′ elements′) where
-    pub same-vertex : (k : ℕ) → k < v → pointAt vertices′ (k + 1) ≡ pointAt table (k + 1)
-    same-vertex k h =
-        let long = accepted-sound v n t table accepts .vertexRoom in
-        let e : vertexAt vertices′ k ≡ vertexAt table k =
-        ap (λ (l : List ℤ). vertexAt l k) (same .vertexTable) ∙ record-kept vertexWidth v k table vertices (omega arith) long
-        in
-        vertex-point vertices′ k ∙ ap {B = Point} (λ (l : List ℤ). record { x = getD l 0 (pos 0); y = getD l 1 (pos 0); z = getD l 2 (pos 0) }) e ∙ sym (vertex-point table k)
+  module _
+      (vertices : List ℤ)
+      (elements : List ℕ)
+      (r : ReadAnswer)
+      (vertices′ : List ℤ)
+      (elements′ : List ℕ)
+      (same : SameTables v n t table vertices elements r vertices′ elements′)
+    where
+      pub same-vertex : (k : ℕ) → k < v → pointAt vertices′ (k + 1) ≡ pointAt table (k + 1)
+      same-vertex k h =
+          let long = accepted-sound v n t table accepts .vertexRoom in
+          let e : vertexAt vertices′ k ≡ vertexAt table k =
+          ap (λ (l : List ℤ). vertexAt l k) (same .vertexTable) ∙ record-kept vertexWidth v k table vertices (omega arith) long
+          in
+          vertex-point vertices′ k
+          ∙ ap {B = Point} (λ (l : List ℤ). record { x = getD l 0 (pos 0); y = getD l 1 (pos 0); z = getD l 2 (pos 0) }) e
+          ∙ sym (vertex-point table k)
 
-    pub same-element : (k : ℕ) → k < n → recordAt elements′ k ≡ recordAt t k
-    unfolding recordAt
-    same-element k h =
-        let long = accepted-sound v n t table accepts .elementRoom in
-        ap (λ (l : List ℕ). recordAt l k) (same .elementTable) ∙ record-kept elementWidth n k t elements (omega arith) long
+      pub same-element : (k : ℕ) → k < n → recordAt elements′ k ≡ recordAt t k
+      unfolding recordAt
+      same-element k h =
+          let long = accepted-sound v n t table accepts .elementRoom in
+          ap (λ (l : List ℕ). recordAt l k) (same .elementTable) ∙ record-kept elementWidth n k t elements (omega arith) long
 
 -- ---- its companions: a coordinate, a count and each record
 
@@ -122,30 +139,38 @@ end-reads-back rooms v n few fewer = end-read rooms v n few fewer .back
 
 -- ---- reading, then writing, then reading
 
-module _ (file : List ℕ) (vertices : List ℤ) (elements : List ℕ) (counts : ReadCounts) (vertices′ : List ℤ) (elements′ : List ℕ) (done : ReadDone file vertices elements (read.Done counts) vertices′ elements′) where
-  -- the only fault of a record that was read is REPEAT
-  pub read-records : (k : ℕ) → k < counts .elements
-      → recordFinding (counts .vertices) (recordAt elements′ k) ≡ cond (distinct (usedOf (recordAt elements′ k))) Clean (Found Repeat)
-  read-records = read-finding file vertices elements counts vertices′ elements′ done
+module _
+    (file : List ℕ)
+    (vertices : List ℤ)
+    (elements : List ℕ)
+    (counts : ReadCounts)
+    (vertices′ : List ℤ)
+    (elements′ : List ℕ)
+    (done : ReadDone file vertices elements (read.Done counts) vertices′ elements′)
+  where
+    -- the only fault of a record that was read is REPEAT
+    pub read-records : (k : ℕ) → k < counts .elements
+        → recordFinding (counts .vertices) (recordAt elements′ k) ≡ cond (distinct (usedOf (recordAt elements′ k))) Clean (Found Repeat)
+    read-records = read-finding file vertices elements counts vertices′ elements′ done
 
-  module _
-      (apart : (k : ℕ) → k < counts .elements → distinct (usedOf (recordAt elements′ k)) ≡ true)
-      (calls : Calls)
-      (called : Called (counts .vertices) (counts .elements) elements′ vertices′ calls)
-    where
-      pub reading-reads-back : ReadsBack (counts .vertices) (counts .elements) elements′ vertices′ calls
-      reading-reads-back =
-          reads-back (counts .vertices) (counts .elements) elements′ vertices′ (read-sound file vertices elements counts vertices′ elements′ done apart) calls called
+    module _
+        (apart : (k : ℕ) → k < counts .elements → distinct (usedOf (recordAt elements′ k)) ≡ true)
+        (calls : Calls)
+        (called : Called (counts .vertices) (counts .elements) elements′ vertices′ calls)
+      where
+        pub reading-reads-back : ReadsBack (counts .vertices) (counts .elements) elements′ vertices′ calls
+        reading-reads-back =
+            reads-back (counts .vertices) (counts .elements) elements′ vertices′ (read-sound file vertices elements counts vertices′ elements′ done apart) calls called
 
-      -- with the lent tables as they were, the answer and both tables are those of the first reading
-      pub read-write-read : (r : ReadAnswer) (w : List ℤ) (e : List ℕ) → length (together (counts .vertices) (counts .elements) calls) ≤ fileLimit
-          → ReadDone (together (counts .vertices) (counts .elements) calls) vertices elements r w e
-          → (r ≡ read.Done counts) × (w ≡ vertices′) × (e ≡ elements′)
-      read-write-read r w e short again =
-          let c = accepted-counts file vertices elements counts vertices′ elements′ done in
-          let first = accepted-stores file vertices elements counts vertices′ elements′ done in
-          let s = reading-reads-back .back short vertices elements r w e (c .vertices-fit) (c .elements-fit) again in (
-            s .answer,
-            s .vertexTable ∙ rw (vertices-front file vertices elements counts vertices′ elements′ done) (sym (first .0)),
-            s .elementTable ∙ rw (elements-front file vertices elements counts vertices′ elements′ done) (sym (first .1)),
-          )
+        -- with the lent tables as they were, the answer and both tables are those of the first reading
+        pub read-write-read : (r : ReadAnswer) (w : List ℤ) (e : List ℕ) → length (together (counts .vertices) (counts .elements) calls) ≤ fileLimit
+            → ReadDone (together (counts .vertices) (counts .elements) calls) vertices elements r w e
+            → (r ≡ read.Done counts) × (w ≡ vertices′) × (e ≡ elements′)
+        read-write-read r w e short again =
+            let c = accepted-counts file vertices elements counts vertices′ elements′ done in
+            let first = accepted-stores file vertices elements counts vertices′ elements′ done in
+            let s = reading-reads-back .back short vertices elements r w e (c .vertices-fit) (c .elements-fit) again in (
+              s .answer,
+              s .vertexTable ∙ rw (vertices-front file vertices elements counts vertices′ elements′ done) (sym (first .0)),
+              s .elementTable ∙ rw (elements-front file vertices elements counts vertices′ elements′ done) (sym (first .1)),
+            )

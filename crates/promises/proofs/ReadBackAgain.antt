@@ -64,82 +64,90 @@ record-kept w n i t old h long =
 
 -- ---- the tables that reading leaves
 
-module _ (file : List ℕ) (vertices : List ℤ) (elements : List ℕ) (counts : ReadCounts) (vertices′ : List ℤ) (elements′ : List ℕ) (done : ReadDone file vertices elements (read.Done counts) vertices′ elements′) where
-  read-accepted : fileVerdict (roomsOf vertices elements) file ≡ accepted (counts .vertices ∷ counts .elements ∷ [])
-  unfolding verdictOf
-  read-accepted = sym (answer-tells-verdict (0 ∷ 0 ∷ []) (verdictOf (read.Done counts)) _ (done .answer))
+module _
+    (file : List ℕ)
+    (vertices : List ℤ)
+    (elements : List ℕ)
+    (counts : ReadCounts)
+    (vertices′ : List ℤ)
+    (elements′ : List ℕ)
+    (done : ReadDone file vertices elements (read.Done counts) vertices′ elements′)
+  where
+    read-accepted : fileVerdict (roomsOf vertices elements) file ≡ accepted (counts .vertices ∷ counts .elements ∷ [])
+    unfolding verdictOf
+    read-accepted = sym (answer-tells-verdict (0 ∷ 0 ∷ []) (verdictOf (read.Done counts)) _ (done .answer))
 
-  records : StoredRecords (roomsOf vertices elements) (counts .vertices) (counts .elements) file
-  records = file-stored (roomsOf vertices elements) (counts .vertices) (counts .elements) file read-accepted
+    records : StoredRecords (roomsOf vertices elements) (counts .vertices) (counts .elements) file
+    records = file-stored (roomsOf vertices elements) (counts .vertices) (counts .elements) file read-accepted
 
-  counted : Counted file vertices elements counts
-  counted = accepted-counts file vertices elements counts vertices′ elements′ done
+    counted : Counted file vertices elements counts
+    counted = accepted-counts file vertices elements counts vertices′ elements′ done
 
-  abbrev storedV : List ℤ
-  storedV = recordsFrom vertexRecords start (linesOf file)
+    abbrev storedV : List ℤ
+    storedV = recordsFrom vertexRecords start (linesOf file)
 
-  abbrev storedE : List ℕ
-  storedE = recordsFrom elementRecords start (linesOf file)
+    abbrev storedE : List ℕ
+    storedE = recordsFrom elementRecords start (linesOf file)
 
-  vertices-laid : vertices′ ≡ laid storedV vertices
-  vertices-laid = accepted-stores file vertices elements counts vertices′ elements′ done .0
+    vertices-laid : vertices′ ≡ laid storedV vertices
+    vertices-laid = accepted-stores file vertices elements counts vertices′ elements′ done .0
 
-  elements-laid : elements′ ≡ laid storedE elements
-  elements-laid = accepted-stores file vertices elements counts vertices′ elements′ done .1
+    elements-laid : elements′ ≡ laid storedE elements
+    elements-laid = accepted-stores file vertices elements counts vertices′ elements′ done .1
 
-  -- the front of each table is what was stored
-  pub vertices-front : take (vertexWidth * counts .vertices) vertices′ ≡ storedV
-  vertices-front = rw vertices-laid (take-laid storedV vertices (vertexWidth * counts .vertices) (counted .vertices-stored))
+    -- the front of each table is what was stored
+    pub vertices-front : take (vertexWidth * counts .vertices) vertices′ ≡ storedV
+    vertices-front = rw vertices-laid (take-laid storedV vertices (vertexWidth * counts .vertices) (counted .vertices-stored))
 
-  pub elements-front : take (elementWidth * counts .elements) elements′ ≡ storedE
-  elements-front = rw elements-laid (take-laid storedE elements (elementWidth * counts .elements) (counted .elements-stored))
+    pub elements-front : take (elementWidth * counts .elements) elements′ ≡ storedE
+    elements-front = rw elements-laid (take-laid storedE elements (elementWidth * counts .elements) (counted .elements-stored))
 
-  vertex-there : (i : ℕ) → i < counts .vertices → Ranged (vertexAt vertices′ i)
-  vertex-there i h =
-      let b : vertexWidth * suc i ≤ length storedV = omega (arith, counted .vertices-stored) in
-      rw (vertices-laid, record-laid storedV vertices vertexWidth i b) (records .ranged i b)
+    vertex-there : (i : ℕ) → i < counts .vertices → Ranged (vertexAt vertices′ i)
+    vertex-there i h =
+        let b : vertexWidth * suc i ≤ length storedV = omega (arith, counted .vertices-stored) in
+        rw (vertices-laid, record-laid storedV vertices vertexWidth i b) (records .ranged i b)
 
-  -- a record that is stored has no fault, or a vertex twice
-  pub element-there : (i : ℕ) → i < counts .elements → Stored (counts .vertices) (recordAt elements′ i)
-  unfolding recordAt
-  element-there i h =
-      let b : elementWidth * suc i ≤ length storedE = omega (arith, counted .elements-stored) in
-      rw (elements-laid, record-laid storedE elements elementWidth i b) (records .stored i b)
+    -- a record that is stored has no fault, or a vertex twice
+    pub element-there : (i : ℕ) → i < counts .elements → Stored (counts .vertices) (recordAt elements′ i)
+    unfolding recordAt
+    element-there i h =
+        let b : elementWidth * suc i ≤ length storedE = omega (arith, counted .elements-stored) in
+        rw (elements-laid, record-laid storedE elements elementWidth i b) (records .stored i b)
 
-  pub read-sound : ((k : ℕ) → k < counts .elements → distinct (usedOf (recordAt elements′ k)) ≡ true)
-      → Sound (counts .vertices) (counts .elements) elements′ vertices′
-  read-sound apart = record {
-    vertices = counted .vertices-limited;
-    elements = counted .elements-limited;
-    vertexRoom = rw vertices-laid (omega (arith, laid-long storedV vertices, counted .vertices-stored));
-    elementRoom = rw elements-laid (omega (arith, laid-long storedE elements, counted .elements-stored));
-    ranged = vertex-there;
-    clean = λ k h.
-        let s = element-there k h in
-        faultless-clean (counts .vertices) (recordAt elements′ k)
-        (record { wide = s .wide; kind = s .kind; inside = s .inside; unused = s .unused; apart = true-T (apart k h) });
-  }
+    pub read-sound : ((k : ℕ) → k < counts .elements → distinct (usedOf (recordAt elements′ k)) ≡ true)
+        → Sound (counts .vertices) (counts .elements) elements′ vertices′
+    read-sound apart = record {
+      vertices = counted .vertices-limited;
+      elements = counted .elements-limited;
+      vertexRoom = rw vertices-laid (omega (arith, laid-long storedV vertices, counted .vertices-stored));
+      elementRoom = rw elements-laid (omega (arith, laid-long storedE elements, counted .elements-stored));
+      ranged = vertex-there;
+      clean = λ k h.
+          let s = element-there k h in
+          faultless-clean (counts .vertices) (recordAt elements′ k)
+          (record { wide = s .wide; kind = s .kind; inside = s .inside; unused = s .unused; apart = true-T (apart k h) });
+    }
 
-  -- the only fault of a record that was read is REPEAT
-  pub read-finding : (k : ℕ) → k < counts .elements
-      → recordFinding (counts .vertices) (recordAt elements′ k) ≡ cond (distinct (usedOf (recordAt elements′ k))) Clean (Found Repeat)
-  read-finding k h = by (distinct (usedOf (recordAt elements′ k))) refl
-    where
-      r : List ℕ
-      r = recordAt elements′ k
+    -- the only fault of a record that was read is REPEAT
+    pub read-finding : (k : ℕ) → k < counts .elements
+        → recordFinding (counts .vertices) (recordAt elements′ k) ≡ cond (distinct (usedOf (recordAt elements′ k))) Clean (Found Repeat)
+    read-finding k h = by (distinct (usedOf (recordAt elements′ k))) refl
+      where
+        r : List ℕ
+        r = recordAt elements′ k
 
-      s : Stored (counts .vertices) r
-      s = element-there k h
+        s : Stored (counts .vertices) r
+        s = element-there k h
 
-      kind : isKind (kindOf r) ≡ true
-      kind = T-true (isKind (kindOf r)) (s .kind)
+        kind : isKind (kindOf r) ≡ true
+        kind = T-true (isKind (kindOf r)) (s .kind)
 
-      inside : some (strayVertex (counts .vertices)) (usedOf r) ≡ false
-      inside = none-follows (isNumber (counts .vertices)) (strayVertex (counts .vertices)) (stays (counts .vertices)) (usedOf r) (s .inside)
+        inside : some (strayVertex (counts .vertices)) (usedOf r) ≡ false
+        inside = none-follows (isNumber (counts .vertices)) (strayVertex (counts .vertices)) (stays (counts .vertices)) (usedOf r) (s .inside)
 
-      unused : some notZero (spareOf r) ≡ false
-      unused = none-follows (eqb 0) notZero (λ z b. rw (eq-eqb z 0 (sym (eqb→eq 0 z b)))) (spareOf r) (s .unused)
+        unused : some notZero (spareOf r) ≡ false
+        unused = none-follows (eqb 0) notZero (λ z b. rw (eq-eqb z 0 (sym (eqb→eq 0 z b)))) (spareOf r) (s .unused)
 
-      by : (b : Bool) → distinct (usedOf r) ≡ b → recordFinding (counts .vertices) r ≡ cond b Clean (Found Repeat)
-      by true e = sym (finding-clean (counts .vertices) r (s .wide) kind inside unused e)
-      by false e = sym (finding-repeat (counts .vertices) r (s .wide) kind inside unused e)
+        by : (b : Bool) → distinct (usedOf r) ≡ b → recordFinding (counts .vertices) r ≡ cond b Clean (Found Repeat)
+        by true e = sym (finding-clean (counts .vertices) r (s .wide) kind inside unused e)
+        by false e = sym (finding-repeat (counts .vertices) r (s .wide) kind inside unused e)

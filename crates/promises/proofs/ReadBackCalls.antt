@@ -45,17 +45,23 @@ joined-same (suc n) f g h =
     ap₂ {C = List ℕ} (λ x y. x ++ y) (h 0 (omega arith)) (joined-same n (λ k. f (suc k)) (λ k. g (suc k)) (λ k l. h (suc k) (omega arith)))
 
 -- the lines of a table, one for each record, put together record by record
-module _ {A : Type 0} (lines : ReaderState → List A → List (List ℕ)) (w : ℕ) (line : List A → List ℕ) (one : (s : ReaderState) (r : List A) → lines s r ≡ line r ∷ []) where
-  table-joined : (n : ℕ) (s : ReaderState) (t : List A)
-      → gather closed (linesFrom lines w s n t) ≡ joined n (λ k. closed (line (take w (drop (w * k) t))))
-  unfolding linesFrom joined
-  table-joined zero s t = refl
-  table-joined (suc n) s t =
-      rw (one s (take w t), mul-zero w)
-      (ap (λ (l : List ℕ). closed (line (take w t)) ++ l)
-      (table-joined n _ (drop w t)
-      ∙ joined-same n _ _
-      (λ k h. ap (λ (l : List A). closed (line (take w l))) (drop-drop (w * k) w t ∙ ap (λ (m : ℕ). drop m t) (add-comm w (w * k) ∙ sym (mul-suc w k))))))
+module _
+    {A : Type 0}
+    (lines : ReaderState → List A → List (List ℕ))
+    (w : ℕ)
+    (line : List A → List ℕ)
+    (one : (s : ReaderState) (r : List A) → lines s r ≡ line r ∷ [])
+  where
+    table-joined : (n : ℕ) (s : ReaderState) (t : List A)
+        → gather closed (linesFrom lines w s n t) ≡ joined n (λ k. closed (line (take w (drop (w * k) t))))
+    unfolding linesFrom joined
+    table-joined zero s t = refl
+    table-joined (suc n) s t =
+        rw (one s (take w t), mul-zero w)
+        (ap (λ (l : List ℕ). closed (line (take w t)) ++ l)
+        (table-joined n _ (drop w t)
+        ∙ joined-same n _ _
+        (λ k h. ap (λ (l : List A). closed (line (take w l))) (drop-drop (w * k) w t ∙ ap (λ (m : ℕ). drop m t) (add-comm w (w * k) ∙ sym (mul-suc w k))))))
 
 -- ---- a vertex of a table, by its record and by its number
 
@@ -181,18 +187,24 @@ module _ (v n : ℕ) (t : List ℕ) (table : List ℤ) (sound : Sound v n t tabl
       ∙ sym (gather-append closed vs (es ++ (endLine v n ∷ [])))
 
   -- reading it gives the same tables
-  module _ (vertices : List ℤ) (elements : List ℕ) (vertexRoom : vertexWidth * v ≤ length vertices) (elementRoom : elementWidth * n ≤ length elements) (short : length (writtenFile table t v n) ≤ fileLimit) where
-    expected : ReadDone (writtenFile table t v n) vertices elements (read.Done (record { vertices = v; elements = n })) (laid (take (vertexWidth * v) table) vertices) (laid (take (elementWidth * n) t) elements)
-    unfolding verdictOf
-    expected =
-        let b = file-back (roomsOf vertices elements) v n t table sound vertexRoom elementRoom short in
-        record { answer = rw (b .verdict); vertexTable = rw (b .vertices); elementTable = rw (b .elements) }
+  module _
+      (vertices : List ℤ)
+      (elements : List ℕ)
+      (vertexRoom : vertexWidth * v ≤ length vertices)
+      (elementRoom : elementWidth * n ≤ length elements)
+      (short : length (writtenFile table t v n) ≤ fileLimit)
+    where
+      expected : ReadDone (writtenFile table t v n) vertices elements (read.Done (record { vertices = v; elements = n })) (laid (take (vertexWidth * v) table) vertices) (laid (take (elementWidth * n) t) elements)
+      unfolding verdictOf
+      expected =
+          let b = file-back (roomsOf vertices elements) v n t table sound vertexRoom elementRoom short in
+          record { answer = rw (b .verdict); vertexTable = rw (b .vertices); elementTable = rw (b .elements) }
 
-    same-tables : (r : ReadAnswer) (vertices′ : List ℤ) (elements′ : List ℕ) → ReadDone (writtenFile table t v n) vertices elements r vertices′ elements′
-        → SameTables v n t table vertices elements r vertices′ elements′
-    same-tables r vertices′ elements′ d =
-        let u = read-unique (writtenFile table t v n) vertices elements r _ vertices′ _ elements′ _ d expected in
-        record { answer = u .0; vertexTable = u .1; elementTable = u .2 }
+      same-tables : (r : ReadAnswer) (vertices′ : List ℤ) (elements′ : List ℕ) → ReadDone (writtenFile table t v n) vertices elements r vertices′ elements′
+          → SameTables v n t table vertices elements r vertices′ elements′
+      same-tables r vertices′ elements′ d =
+          let u = read-unique (writtenFile table t v n) vertices elements r _ vertices′ _ elements′ _ d expected in
+          record { answer = u .0; vertexTable = u .1; elementTable = u .2 }
 
   pub reads-back : ReadsBack v n t table calls
   reads-back = record {

@@ -162,40 +162,48 @@ three (x ∷ y ∷ []) h = absurd (omega arith)
 three (x ∷ y ∷ z ∷ []) h = refl
 three (x ∷ y ∷ z ∷ w ∷ r) h = absurd (omega arith)
 
-module _ (rooms : Rooms) (v n : ℕ) (t : List ℕ) (table : List ℤ) (sound : Sound v n t table) (vertexRoom : vertexWidth * v ≤ rooms .vertices) (elementRoom : elementWidth * n ≤ rooms .elements) where
-  one-vertex : (k : ℕ) (r : List ℤ) → k < v → length r ≡ vertexWidth → Ranged r
-      → LinesRead rooms (reading k 0) (vertexLines (reading k 0) r) r [] (reading (k + 1) 0)
-  unfolding vertexLines
-  one-vertex k r h w g =
-      rw (three r w) at
-      (one-read rooms
-      (vertex-read rooms k (getD r 0 (pos 0)) (getD r 1 (pos 0)) (getD r 2 (pos 0)) (g .x) (g .y) (g .z) (omega (arith, sound .vertices)) (omega arith)))
+module _
+    (rooms : Rooms)
+    (v n : ℕ)
+    (t : List ℕ)
+    (table : List ℤ)
+    (sound : Sound v n t table)
+    (vertexRoom : vertexWidth * v ≤ rooms .vertices)
+    (elementRoom : elementWidth * n ≤ rooms .elements)
+  where
+    one-vertex : (k : ℕ) (r : List ℤ) → k < v → length r ≡ vertexWidth → Ranged r
+        → LinesRead rooms (reading k 0) (vertexLines (reading k 0) r) r [] (reading (k + 1) 0)
+    unfolding vertexLines
+    one-vertex k r h w g =
+        rw (three r w) at
+        (one-read rooms
+        (vertex-read rooms k (getD r 0 (pos 0)) (getD r 1 (pos 0)) (getD r 2 (pos 0)) (g .x) (g .y) (g .z) (omega (arith, sound .vertices)) (omega arith)))
 
-  all-vertices : LinesRead rooms (reading 0 0) (linesFrom vertexLines vertexWidth (reading 0 0) v table) (take (vertexWidth * v) table) [] (reading v 0)
-  all-vertices =
-      rw (zero-add v) at
-      (table-read rooms vertexLines vertexWidth v (λ k. reading k 0) Ranged (λ r. r) (λ r. []) (λ x y. refl) (λ x y. refl) refl refl one-vertex v 0 table
-      (omega arith) (sound .vertexRoom) (sound .ranged))
+    all-vertices : LinesRead rooms (reading 0 0) (linesFrom vertexLines vertexWidth (reading 0 0) v table) (take (vertexWidth * v) table) [] (reading v 0)
+    all-vertices =
+        rw (zero-add v) at
+        (table-read rooms vertexLines vertexWidth v (λ k. reading k 0) Ranged (λ r. r) (λ r. []) (λ x y. refl) (λ x y. refl) refl refl one-vertex v 0 table
+        (omega arith) (sound .vertexRoom) (sound .ranged))
 
-  one-element : (k : ℕ) (r : List ℕ) → k < n → length r ≡ elementWidth → recordFinding v r ≡ Clean
-      → LinesRead rooms (reading v k) (elementLines (reading v k) r) [] r (reading v (k + 1))
-  unfolding elementLines
-  one-element k r h w g = one-read rooms (element-read rooms v k (sound .vertices) (omega (arith, sound .elements)) (omega arith) r g)
+    one-element : (k : ℕ) (r : List ℕ) → k < n → length r ≡ elementWidth → recordFinding v r ≡ Clean
+        → LinesRead rooms (reading v k) (elementLines (reading v k) r) [] r (reading v (k + 1))
+    unfolding elementLines
+    one-element k r h w g = one-read rooms (element-read rooms v k (sound .vertices) (omega (arith, sound .elements)) (omega arith) r g)
 
-  all-elements : LinesRead rooms (reading v 0) (linesFrom elementLines elementWidth (reading v 0) n t) [] (take (elementWidth * n) t) (reading v n)
-  unfolding recordAt
-  all-elements =
-      rw (zero-add n) at
-      (table-read rooms elementLines elementWidth n (λ k. reading v k) (λ r. recordFinding v r ≡ Clean) (λ r. []) (λ r. r) (λ x y. refl) (λ x y. refl) refl refl
-      one-element n 0 t (omega arith) (sound .elementRoom) (sound .clean))
+    all-elements : LinesRead rooms (reading v 0) (linesFrom elementLines elementWidth (reading v 0) n t) [] (take (elementWidth * n) t) (reading v n)
+    unfolding recordAt
+    all-elements =
+        rw (zero-add n) at
+        (table-read rooms elementLines elementWidth n (λ k. reading v k) (λ r. recordFinding v r ≡ Clean) (λ r. []) (λ r. r) (λ x y. refl) (λ x y. refl) refl refl
+        one-element n 0 t (omega arith) (sound .elementRoom) (sound .clean))
 
-  all-lines : LinesRead rooms start (fileLines table t v n) (take (vertexWidth * v) table) (take (elementWidth * n) t) (ended v n)
-  unfolding start fileLines
-  all-lines =
-      let r =
-      both-read rooms all-vertices (both-read rooms all-elements (one-read rooms (end-read rooms v n (sound .vertices) (sound .elements))))
-      in
-      rw (all-vertices .same) (rw (append-nil (take (vertexWidth * v) table), append-nil (take (elementWidth * n) t)) at r)
+    all-lines : LinesRead rooms start (fileLines table t v n) (take (vertexWidth * v) table) (take (elementWidth * n) t) (ended v n)
+    unfolding start fileLines
+    all-lines =
+        let r =
+        both-read rooms all-vertices (both-read rooms all-elements (one-read rooms (end-read rooms v n (sound .vertices) (sound .elements))))
+        in
+        rw (all-vertices .same) (rw (append-nil (take (vertexWidth * v) table), append-nil (take (elementWidth * n) t)) at r)
 
 -- ---- the file
 
@@ -208,29 +216,37 @@ lines-cut (l ∷ ls) h =
     ∙ split-joined lineEnd l (gather closed ls) (h .0)
     ∙ ap (piece l) (lines-cut ls (h .1))
 
-module _ (rooms : Rooms) (v n : ℕ) (t : List ℕ) (table : List ℤ) (sound : Sound v n t table) (vertexRoom : vertexWidth * v ≤ rooms .vertices) (elementRoom : elementWidth * n ≤ rooms .elements) where
-  lines : LinesRead rooms start (fileLines table t v n) (take (vertexWidth * v) table) (take (elementWidth * n) t) (ended v n)
-  lines = all-lines rooms v n t table sound vertexRoom elementRoom
+module _
+    (rooms : Rooms)
+    (v n : ℕ)
+    (t : List ℕ)
+    (table : List ℤ)
+    (sound : Sound v n t table)
+    (vertexRoom : vertexWidth * v ≤ rooms .vertices)
+    (elementRoom : elementWidth * n ≤ rooms .elements)
+  where
+    lines : LinesRead rooms start (fileLines table t v n) (take (vertexWidth * v) table) (take (elementWidth * n) t) (ended v n)
+    lines = all-lines rooms v n t table sound vertexRoom elementRoom
 
-  file-cut : linesOf (writtenFile table t v n) ≡ before (fileLines table t v n) (rest [])
-  unfolding writtenFile
-  file-cut = lines-cut (fileLines table t v n) (lines .unbroken)
+    file-cut : linesOf (writtenFile table t v n) ≡ before (fileLines table t v n) (rest [])
+    unfolding writtenFile
+    file-cut = lines-cut (fileLines table t v n) (lines .unbroken)
 
-  module _ (short : length (writtenFile table t v n) ≤ fileLimit) where
-    -- accepted with the counts that it was written with
-    file-accepted : fileVerdict rooms (writtenFile table t v n) ≡ accepted (v ∷ n ∷ [])
-    unfolding fileVerdict fileFrom atEnd
-    file-accepted =
-        rw (le-ltb fileLimit (length (writtenFile table t v n)) short)
-        (ap (fileFrom rooms start 1) file-cut ∙ lines .verdict 1 (rest []))
+    module _ (short : length (writtenFile table t v n) ≤ fileLimit) where
+      -- accepted with the counts that it was written with
+      file-accepted : fileVerdict rooms (writtenFile table t v n) ≡ accepted (v ∷ n ∷ [])
+      unfolding fileVerdict fileFrom atEnd
+      file-accepted =
+          rw (le-ltb fileLimit (length (writtenFile table t v n)) short)
+          (ap (fileFrom rooms start 1) file-cut ∙ lines .verdict 1 (rest []))
 
-    file-vertices : storedVertices rooms (writtenFile table t v n) ≡ take (vertexWidth * v) table
-    unfolding storedVertices recordsFrom
-    file-vertices = rw file-accepted (ap (recordsFrom vertexRecords start) file-cut ∙ lines .vertices (rest []) ∙ append-nil _)
+      file-vertices : storedVertices rooms (writtenFile table t v n) ≡ take (vertexWidth * v) table
+      unfolding storedVertices recordsFrom
+      file-vertices = rw file-accepted (ap (recordsFrom vertexRecords start) file-cut ∙ lines .vertices (rest []) ∙ append-nil _)
 
-    file-elements : storedElements rooms (writtenFile table t v n) ≡ take (elementWidth * n) t
-    unfolding storedElements recordsFrom
-    file-elements = rw file-accepted (ap (recordsFrom elementRecords start) file-cut ∙ lines .elements (rest []) ∙ append-nil _)
+      file-elements : storedElements rooms (writtenFile table t v n) ≡ take (elementWidth * n) t
+      unfolding storedElements recordsFrom
+      file-elements = rw file-accepted (ap (recordsFrom elementRecords start) file-cut ∙ lines .elements (rest []) ∙ append-nil _)
 
-    pub file-back : FileBack rooms v n t table
-    file-back = record { verdict = file-accepted; vertices = file-vertices; elements = file-elements }
+      pub file-back : FileBack rooms v n t table
+      file-back = record { verdict = file-accepted; vertices = file-vertices; elements = file-elements }

@@ -156,7 +156,8 @@ unsigned-back : (neg : Bool) (m : ℕ) → m ≤ coordinateLimit → unsigned ne
 unfolding unsigned millimetres millimetresOf
 unsigned-back neg m h =
     let e : m / 1000 * 1000 + m % 1000 ≡ m = omega arith in
-    rw (split-joined point (decimal (m / 1000)) (thirds m) (decimal-free point (omega arith) (m / 1000)), split-free point (thirds m) (thirds-free point m (omega arith)), decimal-whole 5 (m / 1000) (omega arith), decimals-back m, e, le-leb m coordinateLimit h)
+    rw (split-joined point (decimal (m / 1000)) (thirds m) (decimal-free point (omega arith) (m / 1000)), split-free point (thirds m) (thirds-free point m (omega arith)))
+    (rw (decimal-whole 5 (m / 1000) (omega arith), decimals-back m, e, le-leb m coordinateLimit h))
 
 -- the first byte of a text that holds b nowhere is not b
 first-not : (b : ℕ) (x y : List ℕ) → 0 < length x → Free b x → eqb (getD (x ++ y) 0 0) b ≡ false

@@ -134,17 +134,25 @@ unfolding areFields
 more-fields m l p e = T-true (areFields m p) (and-right (some l) (areFields m p) (true-T e))
 
 -- what holds of what a field says that passes holds of what each says
-module _ {A : Type 0} (state : ReaderState) (role : Role) (f : List ℕ → A) (Q : A → Type 0) (d : A) (passes : (l : List ℕ) → fieldVerdict state role l ≡ Passed → Q (f l)) where
-  field-at : (n m : ℕ) (p : Pieces) → areFields m p ≡ true → fieldsVerdict state role p ≡ Passed → (i : ℕ) → i < n → i < m
-      → Q (getD (firstOf f n p) i d)
-  unfolding fieldsVerdict firstOf
-  field-at zero m p a h i b c = absurd (omega arith)
-  field-at (suc n) zero p a h i b c = absurd (omega arith)
-  field-at (suc n) (suc m) (rest l) a h zero b c = passes l h
-  field-at (suc n) (suc m) (rest l) a h (suc i) b c = let z = last-field m l a in absurd (omega arith)
-  field-at (suc n) (suc m) (piece l p) a h zero b c = passes l (both-passed (fieldVerdict state role l) (fieldsVerdict state role p) h .0)
-  field-at (suc n) (suc m) (piece l p) a h (suc i) b c =
-      field-at n m p (more-fields m l p a) (both-passed (fieldVerdict state role l) (fieldsVerdict state role p) h .1) i (omega arith) (omega arith)
+module _
+    {A : Type 0}
+    (state : ReaderState)
+    (role : Role)
+    (f : List ℕ → A)
+    (Q : A → Type 0)
+    (d : A)
+    (passes : (l : List ℕ) → fieldVerdict state role l ≡ Passed → Q (f l))
+  where
+    field-at : (n m : ℕ) (p : Pieces) → areFields m p ≡ true → fieldsVerdict state role p ≡ Passed → (i : ℕ) → i < n → i < m
+        → Q (getD (firstOf f n p) i d)
+    unfolding fieldsVerdict firstOf
+    field-at zero m p a h i b c = absurd (omega arith)
+    field-at (suc n) zero p a h i b c = absurd (omega arith)
+    field-at (suc n) (suc m) (rest l) a h zero b c = passes l h
+    field-at (suc n) (suc m) (rest l) a h (suc i) b c = let z = last-field m l a in absurd (omega arith)
+    field-at (suc n) (suc m) (piece l p) a h zero b c = passes l (both-passed (fieldVerdict state role l) (fieldsVerdict state role p) h .0)
+    field-at (suc n) (suc m) (piece l p) a h (suc i) b c =
+        field-at n m p (more-fields m l p a) (both-passed (fieldVerdict state role l) (fieldsVerdict state role p) h .1) i (omega arith) (omega arith)
 
 -- where there is no field, the number is 0
 none-at : (n i : ℕ) → getD (firstOf valueOf n (rest [])) i 0 ≡ 0

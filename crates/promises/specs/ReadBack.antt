@@ -39,10 +39,11 @@ pub record Calls : Type 0 where
   pub element : ℕ → Call
   pub end : Call
 
--- the line of the vertex k, of the element k, from 0, with its byte 10
+-- the line of the vertex k, from 0, with its byte 10
 unfoldable pub vertexText : List ℤ → ℕ → List ℕ
 vertexText table k = let p = pointAt table (k + 1) in closed (vertexLine (p .x) (p .y) (p .z))
 
+-- the line of the element k, from 0, with its byte 10
 unfoldable pub elementText : List ℕ → ℕ → List ℕ
 elementText t k = closed (elementLine (recordAt t k))
 
@@ -53,7 +54,9 @@ endText v n = closed (endLine v n)
 -- each call is for its record, its contract allows its answer and its buffer, and its buffer has room enough
 pub record Called (v n : ℕ) (t : List ℕ) (table : List ℤ) (calls : Calls) : Type 0 where
   pub vertices : (k : ℕ) → k < v
-      → let c = calls .vertex k in let p = pointAt table (k + 1) in WriteDone (writeVertexVerdict (p .x) (p .y) (p .z) (length (c .old))) (c .old) (c .answer) (c .new)
+      → let c = calls .vertex k in
+      let p = pointAt table (k + 1) in
+      WriteDone (writeVertexVerdict (p .x) (p .y) (p .z) (length (c .old))) (c .old) (c .answer) (c .new)
   pub elements : (k : ℕ) → k < n
       → let c = calls .element k in WriteDone (writeElementVerdict (recordAt t k) (length (c .old))) (c .old) (c .answer) (c .new)
   pub end : let c = calls .end in WriteDone (writeEndVerdict v n (length (c .old))) (c .old) (c .answer) (c .new)
@@ -83,10 +86,11 @@ together v n calls = joined v (λ k. wrote (calls .vertex k)) ++ (joined n (λ k
 
 -- ---- a line that reads back
 
--- the reader's state after v vertices and n elements, before EN and after it
+-- the reader's state after v vertices and n elements, before EN
 abbrev pub reading : (vertices elements : ℕ) → ReaderState
 reading v n = record { vertices = v; elements = n; ended = false }
 
+-- and after EN
 abbrev pub ended : (vertices elements : ℕ) → ReaderState
 ended v n = record { vertices = v; elements = n; ended = true }
 
@@ -112,7 +116,7 @@ pub record CallDone (text : List ℕ) (c : Call) : Type 0 where
   pub buffer : c .new ≡ laid text (c .old)
 
 -- reading is done with the same counts, and both lent tables hold the same records, then what stood behind them
-pub record SameTables (v n : ℕ) (t : List ℕ) (table : List ℤ) (vertices : List ℤ) (elements : List ℕ) (r : ReadAnswer) (vertices′ : List ℤ) (elements′ : List ℕ) : Type 0 where
+pub record SameTables (v n : ℕ) (t : List ℕ) (table vertices : List ℤ) (elements : List ℕ) (r : ReadAnswer) (vertices′ : List ℤ) (elements′ : List ℕ) : Type 0 where
   pub answer : r ≡ read.Done (record { vertices = v; elements = n })
   pub vertexTable : vertices′ ≡ laid (take (vertexWidth * v) table) vertices
   pub elementTable : elements′ ≡ laid (take (elementWidth * n) t) elements
