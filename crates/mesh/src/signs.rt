@@ -16,7 +16,7 @@ ghost use lib.Dec.{T};
 ghost use lib.IntN.{pos};
 ghost use lib.ListN.{getD};
 ghost use Rattle.laws.specs.Words.{every};
-ghost use Rattle.volume.specs.Volume.{pointInRange, pointAt};
+ghost use Rattle.volume.specs.Volume.{pointAt};
 ghost use Rattle.records.specs.Record.{usedOf, elementOf, firstElements};
 ghost use Rattle.records.specs.Loops.{Whole, WholeTable};
 ghost use Rattle.mesh.specs.Signs.{vertexWidth, volumeIn, signCounts, badPoint};
@@ -64,16 +64,6 @@ fn point_at(vertices: &[i32], v: usize) -> Point
     }
 }
 
-// A point is within the limits: the sixfold volume of it alone is not refused.
-fn within_limits(p: Point) -> bool
-    ensures { λ r. ⌜ r ≡ pointInRange p ⌝ }
-{
-    match volume::sixfold_volume(p, p, p, p) {
-        VolumeAnswer::Done(_) => true,
-        VolumeAnswer::Refused(_) => false,
-    }
-}
-
 // The number, from 1, of the first of n vertices with a coordinate beyond the limits, or 0.
 fn bad_point(vertices: &[i32], n: usize) -> usize
     requires { ⌜ n ≤ 4096 ⌝ }
@@ -81,7 +71,7 @@ fn bad_point(vertices: &[i32], n: usize) -> usize
 {
     let mut k = 0;
     while k < n {
-        if !within_limits(point_at(vertices, k + 1)) {
+        if !volume::point_in_range(point_at(vertices, k + 1)) {
             return k + 1;
         }
         k += 1;

@@ -61,8 +61,8 @@ add-point-at c = omega (arith, c .before .loop .inv .few)
 point-at-requires : tie.Need-point-at-requires Inv-loop μ-loop
 point-at-requires c κs = (omega arith, omega (arith, c .before .loop .inv .few))
 
-within-limits-requires : tie.Need-within-limits-requires Inv-loop μ-loop
-within-limits-requires c κs = search needs
+point-in-range-requires : tie.Need-point-in-range-requires Inv-loop μ-loop
+point-in-range-requires c κs = search needs
 
 add-result : tie.Need-add-result Inv-loop μ-loop
 add-result c = omega (arith, c .before .before .before .before .loop .inv .few)
@@ -71,7 +71,7 @@ returns : tie.Need-returns Inv-loop μ-loop
 returns c =
     let h = c .before .before .before .before .loop .inv in
     found h (c .before .before .before .loop-test .taken)
-    (tested h (c .before .before .point-at .ensures) (c .before .within-limits .ensures) (c .if1 .taken))
+    (tested h (c .before .before .point-at .ensures) (c .before .point-in-range .ensures) (c .if1 .taken))
 
 add-k : tie.Need-add-k Inv-loop μ-loop
 add-k c = omega (arith, c .before .before .before .before .loop .inv .few)
@@ -83,7 +83,7 @@ loop-again : tie.Need-loop-again Inv-loop μ-loop
 loop-again c =
     let h = c .before .before .before .before .loop .inv in
     next h (c .before .before .before .loop-test .taken)
-    (tested h (c .before .before .point-at .ensures) (c .before .within-limits .ensures) (c .if1 .left))
+    (tested h (c .before .before .point-at .ensures) (c .before .point-in-range .ensures) (c .if1 .left))
 
 returns-2 : tie.Need-returns-2 Inv-loop μ-loop
 returns-2 c = end (c .before .loop .inv) (c .loop-test .left)
@@ -97,7 +97,7 @@ bad-point-spec =
     loop-holds
     add-point-at
     point-at-requires
-    within-limits-requires
+    point-in-range-requires
     add-result
     returns
     add-k
