@@ -5,8 +5,8 @@ use mathlib.Core.Bool.{Bool, true, false, cond, not}
 use mathlib.Core.List.{List, [], _∷_, _++_, append-nil}
 use Prim.Native.Nat.{ℕ, zero, suc, _+_, _*_, _≤_, _<_}
 use native.Mathlib.Omega.{arith}
-use borrow.Author.Tests.{lt-ltb, le-ltb, ne-eqb}
-use lib.Dec.{eqb}
+use borrow.Author.Tests.{lt-ltb, le-ltb, ltb-false, ne-eqb}
+use lib.Dec.{eqb, ltb}
 use lib.IntN.{ℤ, pos, negsuc, natAbs}
 use lib.ListN.{length}
 use lib.Signed.{ltZ}
@@ -14,9 +14,10 @@ use Rattle.laws.specs.Words.{count, every}
 use Rattle.laws.proofs.EveryLaws.{count-append}
 use Rattle.faults.specs.declared.Fault.the-variants.{Room, Range}
 use Rattle.faults.specs.declared.Refusal.{Refusal}
-use Rattle.faults.specs.Refusals.{accepted, refused, refuse, answerOf}
+use Rattle.faults.specs.Refusals.{Verdict, accepted, refused, refuse, refuseIf, answerOf}
 use Rattle.solids.specs.Solids.{Tet, Element}
 use Rattle.solids.specs.Cut.{cut, cutMesh}
+use Rattle.mesh.specs.declared.JudgeAnswer.the-variants as judge
 use Rattle.mesh.specs.declared.SignCounts.{SignCounts}
 use Rattle.mesh.specs.declared.blocks.Block.{Block}
 use Rattle.mesh.specs.declared.signs.Sign.{Sign}
@@ -25,9 +26,10 @@ use Rattle.mesh.specs.declared.signs.Tally.{Tally}
 use Rattle.mesh.specs.declared.SignAnswer.{SignAnswer}
 use Rattle.mesh.specs.declared.SignAnswer.the-variants.{Done, Refused}
 use Rattle.mesh.specs.Judge.{judged}
+use Rattle.mesh.specs.JudgeLoops.{firstRefusal, roomAnswer}
 use Rattle.mesh.specs.Signs.{vertexWidth, volumeIn, isPositive, isZero, isNegative, sound, signCounts, badPoint, signsOf, signVerdict, SignDone}
 use Rattle.mesh.specs.BlockLoops.{tetsIn, BlockIs}
-use Rattle.mesh.specs.SignLoops.{signOf, isPlus, withSign, Tallied, SaysSound, ofCounts, FewSums, Summed}
+use Rattle.mesh.specs.SignLoops.{rangeAnswer, verticesAnswer, signOf, isPlus, withSign, Tallied, SaysSound, ofCounts, FewSums, Summed}
 use Rattle.laws.proofs.ListLaws.{gather-append}
 
 -- ---- a sign
@@ -215,6 +217,34 @@ module _ (table : List ℤ) where
           unsound = omega (arith, joined-unsound, count-most (λ e. not (sound table e)) (es ++ fs));
         }
 
+-- ---- the vertex table: ROOM, then RANGE
+
+-- one of two tests refuses
+first-said : {A : Type 0} (b c : Bool) (x y : Refusal) {f : Refusal} (z : Verdict A)
+    → firstRefusal (cond b (judge.Refused x) judge.Done) (cond c (judge.Refused y) judge.Done) ≡ judge.Refused f → refused f ≡ refuseIf b x (refuseIf c y z)
+first-said true c x y z e = ap refused cc
+first-said false true x y z e = ap refused cc
+first-said false false x y z e = absurd (let w : _≡_ {A = ℕ} 0 1 = cc in omega arith)
+
+-- none of two tests refuses
+none-said : (b c : Bool) (x y : Refusal) → firstRefusal (cond b (judge.Refused x) judge.Done) (cond c (judge.Refused y) judge.Done) ≡ judge.Done
+    → (b ≡ false) × (c ≡ false)
+none-said true c x y e = absurd (let z : _≡_ {A = ℕ} 0 1 = cc in omega arith)
+none-said false true x y e = absurd (let z : _≡_ {A = ℕ} 0 1 = cc in omega arith)
+none-said false false x y e = (refl, refl)
+
+module _ (table : List ℤ) (v : ℕ) (q : verticesAnswer table v ≡ judge.Done) where
+  said : (ltb (length table) (vertexWidth * v) ≡ false) × (ltb 0 (badPoint table v) ≡ false)
+  unfolding verticesAnswer roomAnswer rangeAnswer
+  said = none-said (ltb (length table) (vertexWidth * v)) (ltb 0 (badPoint table v)) (refuse Room 0) (refuse Range (badPoint table v)) q
+
+  -- an accepted vertex table is long enough, and no vertex is beyond the limits
+  pub vertices-long : vertexWidth * v ≤ length table
+  vertices-long = ltb-false (length table) (vertexWidth * v) (said .0)
+
+  pub vertices-inside : badPoint table v ≡ 0
+  vertices-inside = let h = ltb-false 0 (badPoint table v) (said .1) in omega arith
+
 -- ---- the answer, by the tests on the way to it
 
 module _ {v n : ℕ} {t : List ℕ} {table : List ℤ} {r : SignAnswer} where
@@ -227,18 +257,13 @@ module _ {v n : ℕ} {t : List ℕ} {table : List ℤ} {r : SignAnswer} where
   table-refused h e = says (rw (e, h))
 
   module _ {es : List Element} (h : judged v n t ≡ accepted es) where
-    -- ROOM for the vertex table
-    pub vertices-short : length table < vertexWidth * v → r ≡ Refused (refuse Room 0) → SignDone v n t table r
+    -- ROOM or RANGE of the vertex table
+    pub vertices-refused : {f : Refusal} → verticesAnswer table v ≡ judge.Refused f → r ≡ Refused f → SignDone v n t table r
+    unfolding signsOf verticesAnswer roomAnswer rangeAnswer
+    vertices-refused {f} q e = says (rw (e, h) (first-said (ltb (length table) (vertexWidth * v)) (ltb 0 (badPoint table v)) (refuse Room 0) (refuse Range (badPoint table v)) (accepted (signCounts table es)) q))
+
+    -- the four counts
+    pub all-counted : {c : SignCounts} → verticesAnswer table v ≡ judge.Done → ofCounts c ≡ signCounts table es → r ≡ Done c → SignDone v n t table r
     unfolding signsOf
-    vertices-short l e = says (rw (e, h, lt-ltb (length table) (vertexWidth * v) l))
-
-    module _ (l : vertexWidth * v ≤ length table) where
-      -- RANGE with the vertex's index
-      pub vertex-beyond : {k : ℕ} → k ≡ badPoint table v → 0 < k → r ≡ Refused (refuse Range k) → SignDone v n t table r
-      unfolding signsOf
-      vertex-beyond {k} b p e = says (rw (e, h, le-ltb (length table) (vertexWidth * v) l, ← b, lt-ltb 0 k p))
-
-      -- the four counts
-      pub all-counted : {c : SignCounts} → badPoint table v ≡ 0 → ofCounts c ≡ signCounts table es → r ≡ Done c → SignDone v n t table r
-      unfolding signsOf
-      all-counted {c} b k e = says (rw (e, h, le-ltb (length table) (vertexWidth * v) l, b) (ap accepted k))
+    all-counted {c} q k e =
+        says (rw (e, h, le-ltb (length table) (vertexWidth * v) (vertices-long table v q), vertices-inside table v q) (ap accepted k))

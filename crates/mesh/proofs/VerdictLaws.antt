@@ -1,6 +1,6 @@
 -- The verdict on a table, test by test, in the page's order.
 -- Assumes nothing.
-use mathlib.Core.Path.{_≡_, refl, sym, ap, _∙_}
+use mathlib.Core.Path.{_≡_, refl, sym, ap, _∙_, subst}
 use mathlib.Core.Bool.{Bool, true, false}
 use mathlib.Core.List.{List}
 use Prim.Native.Nat.{ℕ, _+_, _*_, _-_, _/_, pred, _≤_, _<_}
@@ -13,12 +13,13 @@ use Rattle.faults.specs.declared.Fault.{Fault}
 use Rattle.faults.specs.declared.Fault.the-variants.{Many, Room, Join}
 use Rattle.faults.specs.declared.Finding.{Finding}
 use Rattle.faults.specs.declared.Refusal.{Refusal}
-use Rattle.faults.specs.Refusals.{accepted, refused, refuse, refusePair}
+use Rattle.faults.specs.Refusals.{Verdict, accepted, refused, refuse, refusePair, refuseIf}
+use Rattle.solids.specs.Solids.{Element}
 use Rattle.records.specs.Record.{width, recordFinding, recordCount, recordAt, firstElements}
 use Rattle.mesh.specs.declared.JudgeAnswer.{JudgeAnswer}
 use Rattle.mesh.specs.declared.JudgeAnswer.the-variants.{Done, Refused}
 use Rattle.mesh.specs.Judge.{mostVertices, mostElements, faultIn, badRecord, badElement, misfit, judged}
-use Rattle.mesh.specs.JudgeLoops.{Accepted, Judging}
+use Rattle.mesh.specs.JudgeLoops.{answerFrom, pairsJudged, Recorded, RecordsJudging, Judging}
 use Rattle.mesh.proofs.JudgeLaws.{records-whole}
 
 -- ---- refusals made of what the code found
@@ -63,28 +64,47 @@ module _ (v n : ℕ) (t : List ℕ) where
         bad-record k e h =
             rw (le-ltb mostVertices v a, le-ltb mostElements n b, le-ltb (length t) (width * n) long, ← e, lt-ltb 0 k h)
 
-        module _ (d : badRecord v t n ≡ 0) where
-          pub bad-pair : (j : ℕ) → j ≡ badElement t n → 0 < j → judged v n t ≡ refused (refusePair j (misfit t (pred j)))
-          unfolding judged
-          bad-pair j e h =
-              rw (le-ltb mostVertices v a, le-ltb mostElements n b, le-ltb (length t) (width * n) long, d, ← e, lt-ltb 0 j h)
+        pub all-clean : badRecord v t n ≡ 0 → Recorded v n t
+        unfolding judged pairsJudged
+        all-clean d = record {
+          verdict = rw (le-ltb mostVertices v a, le-ltb mostElements n b, le-ltb (length t) (width * n) long, d);
+          few = a;
+          table = records-whole v t n d b long;
+          clean = d;
+        }
 
-          pub all-good : badElement t n ≡ 0 → Accepted v n t
-          unfolding judged
-          all-good e = record {
-            verdict = rw (le-ltb mostVertices v a, le-ltb mostElements n b, le-ltb (length t) (width * n) long, d, e);
-            few = a;
-            table = records-whole v t n d b long;
-            clean = d;
-          }
+-- ---- the pairs
 
--- a refusal by a count or a length
-pub refused-judging : (v n : ℕ) (t : List ℕ) (r : JudgeAnswer) (x : Refusal) → r ≡ Refused x → judged v n t ≡ refused x → Judging v n t r
-refused-judging v n t (Refused y) x e p = p ∙ ap refused (go e)
+module _ (t : List ℕ) (n : ℕ) where
+  pub bad-pair : (j : ℕ) → j ≡ badElement t n → 0 < j → pairsJudged t n ≡ refused (refusePair j (misfit t (pred j)))
+  unfolding pairsJudged
+  bad-pair j e h = rw (← e, lt-ltb 0 j h)
+
+  pub all-fit : badElement t n ≡ 0 → pairsJudged t n ≡ accepted (firstElements t n)
+  unfolding pairsJudged
+  all-fit e = rw e
+
+  -- what is accepted are the table's elements
+  pub pairs-accepted : (es : List Element) → pairsJudged t n ≡ accepted es → es ≡ firstElements t n
+  unfolding pairsJudged
+  pairs-accepted es = go (ltb 0 (badElement t n))
+    where
+      go : (b : Bool) → refuseIf b (refusePair (badElement t n) (misfit t (pred (badElement t n)))) (accepted (firstElements t n)) ≡ accepted es
+          → es ≡ firstElements t n
+      go true e = absurd (let z : _≡_ {A = ℕ} 0 1 = cc in omega arith)
+      go false e = cc
+
+-- records, then pairs: the whole judgement
+pub pairs-judging : (v n : ℕ) (t : List ℕ) → Recorded v n t → (r : JudgeAnswer) → r ≡ answerFrom (pairsJudged t n) → Judging v n t r
+pairs-judging v n t h r e = go (pairsJudged t n) refl e
   where
-    go : Refused y ≡ Refused x → x ≡ y
-    go q = cc
-refused-judging v n t Done x e p = absurd (never e)
-  where
-    never : Done ≡ Refused x → ⊥
-    never q = let z : _≡_ {A = ℕ} 0 1 = cc in omega arith
+    go : (x : Verdict (List Element)) → pairsJudged t n ≡ x → r ≡ answerFrom x → Judging v n t r
+    go (accepted es) p q =
+        subst (Judging v n t) (sym q)
+        (record { verdict = h .verdict ∙ p ∙ ap accepted (pairs-accepted t n es p); few = h .few; table = h .table; clean = h .clean })
+    go (refused y) p q = subst (Judging v n t) (sym q) (h .verdict ∙ p)
+
+-- ---- a refusal by a count or a length
+
+pub refused-records : (v n : ℕ) (t : List ℕ) (r : JudgeAnswer) (x : Refusal) → r ≡ Refused x → judged v n t ≡ refused x → RecordsJudging v n t r
+refused-records v n t r x e p = subst (RecordsJudging v n t) (sym e) p

@@ -1,13 +1,51 @@
--- What the judgement that cutting and the sign report share tells them; proofs/JudgeLaws.antt has what follows from it.
+-- What the parts of a judgement tell the entries that share them; proofs/JudgeLaws.antt and proofs/VerdictLaws.antt have what follows from it.
+use mathlib.Core.Bool.{cond}
 use mathlib.Core.Path.{_≡_}
 use mathlib.Core.List.{List}
-use Prim.Native.Nat.{ℕ, _≤_}
-use Rattle.faults.specs.Refusals.{accepted, refused}
+use Prim.Native.Nat.{ℕ, pred, _≤_}
+use lib.Dec.{ltb}
+use Rattle.faults.specs.declared.Fault.the-variants.{Room}
+use Rattle.faults.specs.Refusals.{Verdict, accepted, refused, refuse, refusePair, refuseIf}
+use Rattle.solids.specs.Solids.{Element}
 use Rattle.records.specs.Record.{firstElements}
 use Rattle.records.specs.Loops.{WholeTable}
 use Rattle.mesh.specs.declared.JudgeAnswer.{JudgeAnswer}
 use Rattle.mesh.specs.declared.JudgeAnswer.the-variants.{Done, Refused}
-use Rattle.mesh.specs.Judge.{mostVertices, badRecord, judged}
+use Rattle.mesh.specs.Judge.{mostVertices, badRecord, badElement, misfit, judged}
+
+-- ---- answers
+
+-- the answer that a verdict gives
+abbrev pub answerFrom : {A : Type 0} → Verdict A → JudgeAnswer
+answerFrom (accepted x) = Done
+answerFrom (refused r) = Refused r
+
+-- the first refusal of two answers
+abbrev pub firstRefusal : JudgeAnswer → JudgeAnswer → JudgeAnswer
+firstRefusal Done later = later
+firstRefusal (Refused r) later = Refused r
+
+-- ROOM where a lent length is less than what is wanted
+unfoldable pub roomAnswer : (lent wanted : ℕ) → JudgeAnswer
+roomAnswer lent wanted = cond (ltb lent wanted) (Refused (refuse Room 0)) Done
+
+-- ---- records, then pairs
+
+-- what the pairs of a table are judged to be
+unfoldable pub pairsJudged : List ℕ → ℕ → Verdict (List Element)
+pairsJudged t n = let j = badElement t n in refuseIf (ltb 0 j) (refusePair j (misfit t (pred j))) (accepted (firstElements t n))
+
+-- a table of whole records, none of which has a fault: its pairs are left to be judged
+pub record Recorded (v n : ℕ) (t : List ℕ) : Type 0 where
+  pub verdict : judged v n t ≡ pairsJudged t n
+  pub few : v ≤ mostVertices
+  pub table : WholeTable t n
+  pub clean : badRecord v t n ≡ 0
+
+-- the judgement of counts, length and records: the pairs are left, or the page's refusal
+abbrev pub RecordsJudging : ℕ → ℕ → List ℕ → JudgeAnswer → Type 0
+RecordsJudging v n t Done = Recorded v n t
+RecordsJudging v n t (Refused r) = judged v n t ≡ refused r
 
 -- a table that is accepted: its elements, its records are whole, and none has a fault
 pub record Accepted (v n : ℕ) (t : List ℕ) : Type 0 where
@@ -16,7 +54,7 @@ pub record Accepted (v n : ℕ) (t : List ℕ) : Type 0 where
   pub table : WholeTable t n
   pub clean : badRecord v t n ≡ 0
 
--- the judgement: accepted, or the page's refusal
+-- the whole judgement: accepted, or the page's refusal
 abbrev pub Judging : ℕ → ℕ → List ℕ → JudgeAnswer → Type 0
 Judging v n t Done = Accepted v n t
 Judging v n t (Refused r) = judged v n t ≡ refused r

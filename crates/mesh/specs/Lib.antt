@@ -2,6 +2,7 @@
 pub mod Judge
 pub mod JudgeLoops
 pub mod Cutting
+pub mod CutLoops
 pub mod Signs
 pub mod BlockLoops
 pub mod FitLoops

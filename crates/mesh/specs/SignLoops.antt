@@ -1,26 +1,39 @@
 -- Shapes that only the functions of the private module signs want; proofs/SiteLaws.antt says that an accepted table's vertices are sited, and
 -- proofs/SignLaws.antt what the counts have to do with the page's definitions.
 use mathlib.Core.Path.{_≡_}
-use mathlib.Core.Bool.{Bool, true, false, _&&_}
+use mathlib.Core.Bool.{Bool, true, false, cond, _&&_}
 use mathlib.Core.List.{List, [], _∷_}
 use Prim.Native.Nat.{ℕ, zero, suc, _+_, _*_, _≤_, _<_}
 use lib.Dec.{T, ltb, leb}
 use lib.IntN.{ℤ, pos, negsuc}
 use lib.ListN.{length}
 use Rattle.laws.specs.Words.{count, every}
+use Rattle.faults.specs.declared.Fault.the-variants.{Range}
+use Rattle.faults.specs.Refusals.{refuse}
 use Rattle.volume.specs.Volume.{pointInRange, pointAt}
 use Rattle.solids.specs.Solids.{Vertex, Tet, ofTet, Element}
 use Rattle.solids.specs.Cut.{cut}
 use Rattle.records.specs.Record.{usedOf, recordAt}
+use Rattle.mesh.specs.declared.JudgeAnswer.{JudgeAnswer}
+use Rattle.mesh.specs.declared.JudgeAnswer.the-variants.{Done, Refused}
 use Rattle.mesh.specs.declared.SignCounts.{SignCounts}
 use Rattle.mesh.specs.declared.blocks.Block.{Block}
 use Rattle.mesh.specs.declared.signs.Sign.{Sign}
 use Rattle.mesh.specs.declared.signs.Sign.the-variants.{Positive, Zero, Negative}
 use Rattle.mesh.specs.declared.signs.Tally.{Tally}
-use Rattle.mesh.specs.Signs.{vertexWidth, isPositive, isZero, isNegative, sound}
+use Rattle.mesh.specs.JudgeLoops.{firstRefusal, roomAnswer}
+use Rattle.mesh.specs.Signs.{vertexWidth, badPoint, isPositive, isZero, isNegative, sound}
 use Rattle.mesh.specs.BlockLoops.{tetsIn, BlockIs}
 
 -- ---- a vertex table
+
+-- RANGE with the number, from 1, of the first vertex beyond the limits; 0 says that there is none
+unfoldable pub rangeAnswer : ℕ → JudgeAnswer
+rangeAnswer k = cond (ltb 0 k) (Refused (refuse Range k)) Done
+
+-- ROOM, then RANGE
+unfoldable pub verticesAnswer : List ℤ → ℕ → JudgeAnswer
+verticesAnswer table n = firstRefusal (roomAnswer (length table) (vertexWidth * n)) (rangeAnswer (badPoint table n))
 
 -- a vertex number, from 1, whose point stands in the table and is within the limits
 unfoldable pub sited : List ℤ → Vertex → Bool

@@ -1,6 +1,10 @@
 // The tetrahedra of a table: counted, and stored one after the other.
+use crate::CutAnswer;
+use crate::CutCounts;
+use crate::JudgeAnswer;
 use crate::blocks;
 use crate::blocks::Tet;
+use crate::judge;
 ghost use mathlib.Core.Path.{_≡_};
 ghost use mathlib.Core.List.{[], _∷_, map};
 ghost use Prim.Native.Nat.{_+_, _*_, _≤_};
@@ -11,6 +15,7 @@ ghost use Rattle.records.specs.Record.{elementOf, firstElements};
 ghost use Rattle.records.specs.Loops.{Whole, WholeTable};
 ghost use Rattle.mesh.specs.Cutting.{tetWidth, flat};
 ghost use Rattle.mesh.specs.BlockLoops.{tetOf, Stored, Counted};
+ghost use Rattle.mesh.specs.CutLoops.{storedUnder, withCount, PairsCut};
 
 // How many numbers a tetrahedron of the output has.
 const TET: usize = 4;
@@ -54,7 +59,7 @@ fn put_element(numbers: &[u16], out: &mut [u16], at: usize) -> usize
 }
 
 // How many tetrahedra the first n elements make.
-pub fn count_all(table: &[u16], n: usize) -> usize
+fn count_all(table: &[u16], n: usize) -> usize
     requires { ⌜ WholeTable (now table) n ⌝ }
     ensures { λ r. ⌜ Counted (cutMesh (firstElements (now (table .entry)) n)) n r ⌝ }
 {
@@ -69,7 +74,7 @@ pub fn count_all(table: &[u16], n: usize) -> usize
 }
 
 // The cut of the first n elements, from the front on.
-pub fn cut_all(table: &[u16], n: usize, out: &mut [u16])
+fn cut_all(table: &[u16], n: usize, out: &mut [u16])
     requires { ⌜ WholeTable (now table) n ⌝ }
     requires { ⌜ tetWidth * length (cutMesh (firstElements (now table) n)) ≤ length (now out) ⌝ }
     ensures { λ _. ⌜ now (out .exit) ≡ laid (flat (cutMesh (firstElements (now (table .entry)) n))) (now (out .entry)) ⌝ }
@@ -84,9 +89,42 @@ pub fn cut_all(table: &[u16], n: usize, out: &mut [u16])
 }
 
 // How many numbers the tetrahedra take.
-pub fn numbers_of(count: usize) -> usize
+fn numbers_of(count: usize) -> usize
     requires { ⌜ count ≤ 6144 ⌝ }
     ensures { λ r. ⌜ r ≡ tetWidth * count ⌝ }
 {
     TET * count
+}
+
+// How many elements are stored: all, or none under a refusal.
+fn stored_under(answer: JudgeAnswer, n: usize) -> usize
+    ensures { λ r. ⌜ r ≡ storedUnder answer «n» ⌝ }
+{
+    match answer {
+        JudgeAnswer::Done => n,
+        JudgeAnswer::Refused(_) => 0,
+    }
+}
+
+// The answer of cutting that goes with an answer of judging.
+fn with_count(answer: JudgeAnswer, count: usize) -> CutAnswer
+    ensures { λ r. ⌜ r ≡ withCount answer «count» ⌝ }
+{
+    match answer {
+        JudgeAnswer::Done => CutAnswer::Done(CutCounts { tetrahedra: count }),
+        JudgeAnswer::Refused(refusal) => CutAnswer::Refused(refusal),
+    }
+}
+
+// Cuts a table of faultless records: its pairs are judged, then the output's room; a refusal stores nothing.
+pub fn cut_records(table: &[u16], n: usize, out: &mut [u16]) -> CutAnswer
+    requires { ⌜ WholeTable (now table) n ⌝ }
+    ensures { λ r. ⌜ PairsCut (now (table .entry)) «n» (now (out .entry)) r (now (out .exit)) ⌝ }
+{
+    let count = count_all(table, n);
+    let pairs = judge::judge_pairs(table, n);
+    let room = judge::judge_room(out.len(), numbers_of(count));
+    let answer = judge::first_refusal(pairs, room);
+    cut_all(table, stored_under(answer, n), out);
+    with_count(answer, count)
 }

@@ -4,7 +4,7 @@ ghost use Prim.Native.Nat.{_<_, pred};
 ghost use Rattle.faults.specs.Refusals.{refuse, refusePair};
 ghost use Rattle.records.specs.Record.{recordFinding, recordAt};
 ghost use Rattle.mesh.specs.Judge.{badRecord, isFault, faultIn, misfit};
-ghost use Rattle.mesh.specs.JudgeLoops.{Judging};
+ghost use Rattle.mesh.specs.JudgeLoops.{answerFrom, firstRefusal, roomAnswer, pairsJudged, RecordsJudging, Judging};
 use crate::JudgeAnswer;
 use crate::fit;
 use faults::Fault;
@@ -89,9 +89,9 @@ fn refused_count(fault: Fault) -> JudgeAnswer
     })
 }
 
-// The judgement that every entry over a table starts with.
-pub fn judge(vertex_count: usize, element_count: usize, elements: &[u16]) -> JudgeAnswer
-    ensures { λ r. ⌜ Judging «vertex_count» «element_count» (now (elements .entry)) r ⌝ }
+// The counts, the table's length and each record, in the page's order.
+pub fn judge_records(vertex_count: usize, element_count: usize, elements: &[u16]) -> JudgeAnswer
+    ensures { λ r. ⌜ RecordsJudging «vertex_count» «element_count» (now (elements .entry)) r ⌝ }
 {
     if VERTEX_LIMIT < vertex_count {
         return refused_count(Fault::Many);
@@ -106,9 +106,46 @@ pub fn judge(vertex_count: usize, element_count: usize, elements: &[u16]) -> Jud
     if 0 < k {
         return JudgeAnswer::Refused(record_refusal(elements, vertex_count, k));
     }
+    JudgeAnswer::Done
+}
+
+// The pairs, by lowest j and then lowest i.
+pub fn judge_pairs(elements: &[u16], element_count: usize) -> JudgeAnswer
+    ensures { λ r. ⌜ r ≡ answerFrom (pairsJudged (now (elements .entry)) «element_count») ⌝ }
+{
     let j = fit::bad_element(elements, element_count);
     if 0 < j {
         return JudgeAnswer::Refused(pair_refusal(elements, j));
     }
     JudgeAnswer::Done
+}
+
+// A lent length that is less than what is wanted is ROOM.
+pub fn judge_room(lent: usize, wanted: usize) -> JudgeAnswer
+    ensures { λ r. ⌜ r ≡ roomAnswer «lent» «wanted» ⌝ }
+{
+    if lent < wanted {
+        return refused_count(Fault::Room);
+    }
+    JudgeAnswer::Done
+}
+
+// The first refusal of two answers.
+pub fn first_refusal(earlier: JudgeAnswer, later: JudgeAnswer) -> JudgeAnswer
+    ensures { λ r. ⌜ r ≡ firstRefusal earlier later ⌝ }
+{
+    match earlier {
+        JudgeAnswer::Done => later,
+        JudgeAnswer::Refused(_) => earlier,
+    }
+}
+
+// The judgement that judging and the sign report share: the records, then the pairs.
+pub fn judge(vertex_count: usize, element_count: usize, elements: &[u16]) -> JudgeAnswer
+    ensures { λ r. ⌜ Judging «vertex_count» «element_count» (now (elements .entry)) r ⌝ }
+{
+    match judge_records(vertex_count, element_count, elements) {
+        JudgeAnswer::Refused(refusal) => JudgeAnswer::Refused(refusal),
+        JudgeAnswer::Done => judge_pairs(elements, element_count),
+    }
 }

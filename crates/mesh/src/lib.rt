@@ -1,10 +1,7 @@
 // Element tables: judged, cut, and counted by sign.
-ghost use mathlib.Core.Path.{_≡_};
-ghost use Rattle.faults.specs.Refusals.{refuse};
 ghost use Rattle.mesh.specs.Judge.{JudgeDone};
 ghost use Rattle.mesh.specs.Cutting.{CutDone};
 ghost use Rattle.mesh.specs.Signs.{SignDone};
-use faults::Fault;
 use faults::Refusal;
 
 mod blocks;
@@ -60,20 +57,9 @@ pub fn cut_mesh(
 ) -> CutAnswer
     ensures { λ r. ⌜ CutDone «vertex_count» «element_count» (now (elements .entry)) (now (tetrahedra .entry)) r (now (tetrahedra .exit)) ⌝ }
 {
-    match judge::judge(vertex_count, element_count, elements) {
+    match judge::judge_records(vertex_count, element_count, elements) {
         JudgeAnswer::Refused(refusal) => CutAnswer::Refused(refusal),
-        JudgeAnswer::Done => {
-            let count = cutting::count_all(elements, element_count);
-            if tetrahedra.len() < cutting::numbers_of(count) {
-                return CutAnswer::Refused(Refusal {
-                    fault: Fault::Room,
-                    place: 0,
-                    second: 0,
-                });
-            }
-            cutting::cut_all(elements, element_count, tetrahedra);
-            CutAnswer::Done(CutCounts { tetrahedra: count })
-        }
+        JudgeAnswer::Done => cutting::cut_records(elements, element_count, tetrahedra),
     }
 }
 
@@ -88,26 +74,13 @@ pub fn sign_report(
 {
     match judge::judge(vertex_count, element_count, elements) {
         JudgeAnswer::Refused(refusal) => SignAnswer::Refused(refusal),
-        JudgeAnswer::Done => {
-            if vertices.len() < signs::numbers_of(vertex_count) {
-                return SignAnswer::Refused(refuse(Fault::Room, 0));
-            }
-            let k = signs::bad_point(vertices, vertex_count);
-            if 0 < k {
-                return SignAnswer::Refused(refuse(Fault::Range, k));
-            }
-            SignAnswer::Done(signs::count_signs(elements, element_count, vertices))
-        }
-    }
-}
-
-// A fault with the place that it names.
-fn refuse(fault: Fault, place: usize) -> Refusal
-    ensures { λ r. ⌜ r ≡ refuse fault place ⌝ }
-{
-    Refusal {
-        fault,
-        place,
-        second: 0,
+        JudgeAnswer::Done => match signs::judge_vertices(vertices, vertex_count) {
+            JudgeAnswer::Refused(refusal) => SignAnswer::Refused(refusal),
+            JudgeAnswer::Done => SignAnswer::Done(signs::count_signs(
+                elements,
+                element_count,
+                vertices,
+            )),
+        },
     }
 }

@@ -1,22 +1,27 @@
 // The first vertex beyond the limits, and the signs of a table's tetrahedra, counted.
+use crate::JudgeAnswer;
 use crate::SignCounts;
 use crate::blocks;
 use crate::blocks::Block;
 use crate::blocks::Tet;
+use crate::judge;
+use faults::Fault;
+use faults::Refusal;
 use volume::Point;
 use volume::VolumeAnswer;
 ghost use mathlib.Core.Path.{_≡_};
 ghost use mathlib.Core.List.{[], _∷_};
 ghost use Prim.Native.Nat.{_*_, _≤_};
 ghost use lib.Dec.{T};
-ghost use lib.ListN.{length};
+ghost use lib.IntN.{pos};
+ghost use lib.ListN.{getD};
 ghost use Rattle.laws.specs.Words.{every};
-ghost use Rattle.volume.specs.Volume.{pointInRange, pointAt};
+ghost use Rattle.volume.specs.Volume.{pointAt};
 ghost use Rattle.records.specs.Record.{usedOf, elementOf, firstElements};
 ghost use Rattle.records.specs.Loops.{Whole, WholeTable};
 ghost use Rattle.mesh.specs.Signs.{vertexWidth, volumeIn, signCounts, badPoint};
 ghost use Rattle.mesh.specs.BlockLoops.{tetOf, tetsIn};
-ghost use Rattle.mesh.specs.SignLoops.{sited, sitedTet, SitedBlock, SitedTable, signOf, isPlus, withSign, Few, Tallied, SaysSound, ofCounts, FewSums, Summed};
+ghost use Rattle.mesh.specs.SignLoops.{rangeAnswer, verticesAnswer, sited, sitedTet, SitedBlock, SitedTable, signOf, isPlus, withSign, Few, Tallied, SaysSound, ofCounts, FewSums, Summed};
 
 // How many numbers a vertex has.
 const POINT: usize = 3;
@@ -35,44 +40,69 @@ pub struct Tally {
     pub negative: usize,
 }
 
+// The number at an index of a vertex table; 0 behind its end.
+fn number_at(vertices: &[i32], at: usize) -> i32
+    ensures { λ z. ⌜ z ≡ getD (now (vertices .entry)) «at» (pos 0) ⌝ }
+{
+    if vertices.len() <= at {
+        return 0;
+    }
+    vertices[at]
+}
+
 // The vertex v, from 1, of a vertex table.
 fn point_at(vertices: &[i32], v: usize) -> Point
     requires { ⌜ 1 ≤ v ⌝ }
-    requires { ⌜ vertexWidth * v ≤ length (now vertices) ⌝ }
+    requires { ⌜ v ≤ 65535 ⌝ }
     ensures { λ p. ⌜ p ≡ pointAt (now (vertices .entry)) v ⌝ }
 {
     let at = POINT * (v - 1);
     Point {
-        x: vertices[at],
-        y: vertices[at + 1],
-        z: vertices[at + 2],
-    }
-}
-
-// A point is within the limits: the sixfold volume of it alone is not refused.
-fn within_limits(p: Point) -> bool
-    ensures { λ r. ⌜ r ≡ pointInRange p ⌝ }
-{
-    match volume::sixfold_volume(p, p, p, p) {
-        VolumeAnswer::Done(_) => true,
-        VolumeAnswer::Refused(_) => false,
+        x: number_at(vertices, at),
+        y: number_at(vertices, at + 1),
+        z: number_at(vertices, at + 2),
     }
 }
 
 // The number, from 1, of the first of n vertices with a coordinate beyond the limits, or 0.
-pub fn bad_point(vertices: &[i32], n: usize) -> usize
+fn bad_point(vertices: &[i32], n: usize) -> usize
     requires { ⌜ n ≤ 4096 ⌝ }
-    requires { ⌜ vertexWidth * n ≤ length (now vertices) ⌝ }
     ensures { λ r. ⌜ r ≡ badPoint (now (vertices .entry)) n ⌝ }
 {
     let mut k = 0;
     while k < n {
-        if !within_limits(point_at(vertices, k + 1)) {
+        if !volume::point_in_range(point_at(vertices, k + 1)) {
             return k + 1;
         }
         k += 1;
     }
     0
+}
+
+// A vertex beyond the limits is RANGE with its number.
+fn judge_range(vertices: &[i32], n: usize) -> JudgeAnswer
+    requires { ⌜ n ≤ 4096 ⌝ }
+    ensures { λ r. ⌜ r ≡ rangeAnswer (badPoint (now (vertices .entry)) n) ⌝ }
+{
+    let k = bad_point(vertices, n);
+    if 0 < k {
+        return JudgeAnswer::Refused(Refusal {
+            fault: Fault::Range,
+            place: k,
+            second: 0,
+        });
+    }
+    JudgeAnswer::Done
+}
+
+// The vertex table: ROOM, then RANGE.
+pub fn judge_vertices(vertices: &[i32], n: usize) -> JudgeAnswer
+    requires { ⌜ n ≤ 4096 ⌝ }
+    ensures { λ r. ⌜ r ≡ verticesAnswer (now (vertices .entry)) n ⌝ }
+{
+    let room = judge::judge_room(vertices.len(), numbers_of(n));
+    let range = judge_range(vertices, n);
+    judge::first_refusal(room, range)
 }
 
 // The sixfold volume of a tetrahedron; no point of it is refused.
@@ -252,7 +282,7 @@ pub fn count_signs(table: &[u16], n: usize, vertices: &[i32]) -> SignCounts
 }
 
 // How many numbers the vertices take.
-pub fn numbers_of(count: usize) -> usize
+fn numbers_of(count: usize) -> usize
     requires { ⌜ count ≤ 4096 ⌝ }
     ensures { λ r. ⌜ r ≡ vertexWidth * count ⌝ }
 {

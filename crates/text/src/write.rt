@@ -9,13 +9,12 @@ use faults::Fault;
 use faults::Finding;
 use faults::Refusal;
 use records::judge_record;
-use volume::LIMIT;
+use volume::Point;
+use volume::point_in_range;
 ghost use mathlib.Core.Path.{_≡_};
-ghost use mathlib.Core.Bool.{_&&_};
 ghost use Prim.Native.Nat.{_≤_};
 ghost use lib.ListN.{length};
 ghost use Rattle.faults.specs.Refusals.{refuse};
-ghost use Rattle.volume.specs.Volume.{inRange};
 ghost use Rattle.text.specs.Written.{inRoom, writeVertexVerdict, writeElementVerdict, writeEndVerdict};
 ghost use Rattle.text.specs.Writing.{writeRefusalVerdict, WriteDone};
 ghost use Rattle.text.specs.WriteLoops.{capacity, heldIn};
@@ -58,31 +57,11 @@ fn store(text: Text, buffer: &mut [u8]) -> WriteAnswer
     WriteAnswer::Done(n)
 }
 
-// Whether a coordinate lies within the limits.
-fn in_range(z: i32) -> bool
-    ensures { λ r. ⌜ r ≡ inRange z ⌝ }
-{
-    -LIMIT <= z && z <= LIMIT
-}
-
-// Whether each coordinate of a vertex lies within the limits.
-fn all_in_range(x: i32, y: i32, z: i32) -> bool
-    ensures { λ r. ⌜ r ≡ (inRange x && (inRange y && inRange z)) ⌝ }
-{
-    if !in_range(x) {
-        return false;
-    }
-    if !in_range(y) {
-        return false;
-    }
-    in_range(z)
-}
-
 // The record of a vertex: RANGE, then ROOM.
 pub fn write_vertex(x: i32, y: i32, z: i32, buffer: &mut [u8]) -> WriteAnswer
     ensures { λ r. ⌜ WriteDone (writeVertexVerdict x y z (length (now (buffer .entry)))) (now (buffer .entry)) r (now (buffer .exit)) ⌝ }
 {
-    if all_in_range(x, y, z) {
+    if point_in_range(Point { x, y, z }) {
         return store(vertex_line(x, y, z), buffer);
     }
     refused(Fault::Range, 1)

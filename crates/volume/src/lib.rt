@@ -39,7 +39,8 @@ fn in_range(z: i32) -> bool
     -LIMIT <= z && z <= LIMIT
 }
 
-fn point_in_range(p: Point) -> bool
+// Each coordinate of the point is within the limits.
+pub fn point_in_range(p: Point) -> bool
     ensures { λ r. ⌜ r ≡ pointInRange p ⌝ }
 {
     if !in_range(p.x) {

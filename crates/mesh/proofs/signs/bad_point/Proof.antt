@@ -6,19 +6,17 @@ use native.Mathlib.Numerals.{add-one}
 use mathlib.Core.Path.{_≡_, sym, ap, _∙_}
 use mathlib.Core.Bool.{Bool, true, false, not}
 use mathlib.Core.List.{List}
-use Prim.Native.Nat.{ℕ, _+_, _*_, _-_, _≤_, _<_}
+use Prim.Native.Nat.{ℕ, _+_, _-_, _≤_, _<_}
 use lib.IntN.{ℤ}
-use lib.ListN.{length}
 use Rattle.laws.proofs.SearchLaws.{least-start, least-more, least-found}
 use Rattle.volume.specs.declared.Point.{Point}
 use Rattle.volume.specs.Volume.{pointInRange, pointAt}
-use Rattle.mesh.specs.Signs.{vertexWidth, badPoint}
+use Rattle.mesh.specs.Signs.{badPoint}
 use Rattle.mesh.proofs.signs.bad_point.Statement.{statement}
 use Rattle.mesh.proofs.signs.bad_point.Tie as tie
 
 record Kept (table : List ℤ) (n k : ℕ) : Type 0 where
   few : n ≤ 4096
-  long : vertexWidth * n ≤ length table
   up : k ≤ n
   clean : badPoint table k ≡ 0
 
@@ -37,7 +35,7 @@ module _ {table : List ℤ} {n k : ℕ} (h : Kept table n k) where
 
   next : k < n → test table k ≡ false → Kept table n (k + 1)
   unfolding badPoint
-  next l e = record { few = h .few; long = h .long; up = omega arith; clean = least-more (test table) (h .clean) e }
+  next l e = record { few = h .few; up = omega arith; clean = least-more (test table) (h .clean) e }
 
   found : k < n → test table k ≡ true → k + 1 ≡ badPoint table n
   unfolding badPoint
@@ -55,16 +53,16 @@ abbrev μ-loop : tie.MeasureT-loop
 μ-loop vertices n k₀ k = n - k
 
 loop-holds : tie.Need-loop-holds Inv-loop μ-loop
-loop-holds c = record { few = c .pre .0; long = c .pre .1; up = omega arith; clean = start (c .args .vertices .now) }
+loop-holds c = record { few = c .pre; up = omega arith; clean = start (c .args .vertices .now) }
 
 add-point-at : tie.Need-add-point-at Inv-loop μ-loop
 add-point-at c = omega (arith, c .before .loop .inv .few)
 
 point-at-requires : tie.Need-point-at-requires Inv-loop μ-loop
-point-at-requires c κs = (omega arith, omega (arith, c .before .loop .inv .long))
+point-at-requires c κs = (omega arith, omega (arith, c .before .loop .inv .few))
 
-within-limits-requires : tie.Need-within-limits-requires Inv-loop μ-loop
-within-limits-requires c κs = search needs
+point-in-range-requires : tie.Need-point-in-range-requires Inv-loop μ-loop
+point-in-range-requires c κs = search needs
 
 add-result : tie.Need-add-result Inv-loop μ-loop
 add-result c = omega (arith, c .before .before .before .before .loop .inv .few)
@@ -73,7 +71,7 @@ returns : tie.Need-returns Inv-loop μ-loop
 returns c =
     let h = c .before .before .before .before .loop .inv in
     found h (c .before .before .before .loop-test .taken)
-    (tested h (c .before .before .point-at .ensures) (c .before .within-limits .ensures) (c .if1 .taken))
+    (tested h (c .before .before .point-at .ensures) (c .before .point-in-range .ensures) (c .if1 .taken))
 
 add-k : tie.Need-add-k Inv-loop μ-loop
 add-k c = omega (arith, c .before .before .before .before .loop .inv .few)
@@ -85,7 +83,7 @@ loop-again : tie.Need-loop-again Inv-loop μ-loop
 loop-again c =
     let h = c .before .before .before .before .loop .inv in
     next h (c .before .before .before .loop-test .taken)
-    (tested h (c .before .before .point-at .ensures) (c .before .within-limits .ensures) (c .if1 .left))
+    (tested h (c .before .before .point-at .ensures) (c .before .point-in-range .ensures) (c .if1 .left))
 
 returns-2 : tie.Need-returns-2 Inv-loop μ-loop
 returns-2 c = end (c .before .loop .inv) (c .loop-test .left)
@@ -99,7 +97,7 @@ bad-point-spec =
     loop-holds
     add-point-at
     point-at-requires
-    within-limits-requires
+    point-in-range-requires
     add-result
     returns
     add-k

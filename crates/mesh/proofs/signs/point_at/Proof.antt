@@ -1,6 +1,8 @@
 -- The three numbers of the table are the vertex.
 -- Assumes nothing.
-use Prim.Native.Nat.{_-_}
+use mathlib.Core.Path.{_∙_}
+use mir.Syntax.{w32}
+use mir.Facts.{toZ-ofZ}
 use Rattle.volume.specs.Volume.{pointAt}
 use borrow.Author.Needs.{needs}
 use Rattle.mesh.proofs.signs.point_at.Statement.{statement}
@@ -12,33 +14,28 @@ sub-at c = search needs
 mul-at : tie.Need-mul-at
 mul-at c = search needs
 
-mul-t4 : tie.Need-mul-t4
-mul-t4 c = search needs
+number-at-requires : tie.Need-number-at-requires
+number-at-requires c κs = search needs
 
-shared-slice-copy-out-t6 : tie.Need-shared-slice-copy-out-t6
-shared-slice-copy-out-t6 c = search needs
+add-number-at : tie.Need-add-number-at
+add-number-at c = search needs
 
-add-t7 : tie.Need-add-t7
-add-t7 c = search needs
+number-at-requires-2 : tie.Need-number-at-requires-2
+number-at-requires-2 c κs = search needs
 
-mul-t8 : tie.Need-mul-t8
-mul-t8 c = search needs
+add-number-at-2 : tie.Need-add-number-at-2
+add-number-at-2 c = search needs
 
-shared-slice-copy-out-t10 : tie.Need-shared-slice-copy-out-t10
-shared-slice-copy-out-t10 c = search needs
-
-add-t11 : tie.Need-add-t11
-add-t11 c = search needs
-
-mul-t12 : tie.Need-mul-t12
-mul-t12 c = search needs
-
-shared-slice-copy-out-t14 : tie.Need-shared-slice-copy-out-t14
-shared-slice-copy-out-t14 c = search needs
+number-at-requires-3 : tie.Need-number-at-requires-3
+number-at-requires-3 c κs = search needs
 
 returns : tie.Need-returns
 unfolding pointAt
-returns c = search needs
+returns c =
+    let x = toZ-ofZ {w = w32} {z = c .before .before .number-at .result} (search needs) ∙ c .before .before .number-at .ensures in
+    let y = toZ-ofZ {w = w32} {z = c .before .number-at2 .result} (search needs) ∙ c .before .number-at2 .ensures in
+    let z = toZ-ofZ {w = w32} {z = c .number-at3 .result} (search needs) ∙ c .number-at3 .ensures in
+    λ i. record { x = x i; y = y i; z = z i }
 
 pub point-at-spec : {M : Type 1} → statement M
 point-at-spec =
@@ -46,12 +43,9 @@ point-at-spec =
     (tie.spec
     sub-at
     mul-at
-    mul-t4
-    shared-slice-copy-out-t6
-    add-t7
-    mul-t8
-    shared-slice-copy-out-t10
-    add-t11
-    mul-t12
-    shared-slice-copy-out-t14
+    number-at-requires
+    add-number-at
+    number-at-requires-2
+    add-number-at-2
+    number-at-requires-3
     returns)

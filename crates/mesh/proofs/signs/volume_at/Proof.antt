@@ -21,25 +21,25 @@ cast-point-at : tie.Need-cast-point-at
 cast-point-at c = search needs
 
 point-at-requires : tie.Need-point-at-requires
-point-at-requires c κs = let h = sites (c .before) .at-a in (h .low, h .high)
+point-at-requires c κs = let h = sites (c .before) .at-a in (h .low, search needs)
 
 cast-point-at-2 : tie.Need-cast-point-at-2
 cast-point-at-2 c = search needs
 
 point-at-requires-2 : tie.Need-point-at-requires-2
-point-at-requires-2 c κs = let h = sites (c .before .before .before) .at-b in (h .low, h .high)
+point-at-requires-2 c κs = let h = sites (c .before .before .before) .at-b in (h .low, search needs)
 
 cast-point-at-3 : tie.Need-cast-point-at-3
 cast-point-at-3 c = search needs
 
 point-at-requires-3 : tie.Need-point-at-requires-3
-point-at-requires-3 c κs = let h = sites (c .before .before .before .before .before) .at-c in (h .low, h .high)
+point-at-requires-3 c κs = let h = sites (c .before .before .before .before .before) .at-c in (h .low, search needs)
 
 cast-point-at-4 : tie.Need-cast-point-at-4
 cast-point-at-4 c = search needs
 
 point-at-requires-4 : tie.Need-point-at-requires-4
-point-at-requires-4 c κs = let h = sites (c .before .before .before .before .before .before .before) .at-d in (h .low, h .high)
+point-at-requires-4 c κs = let h = sites (c .before .before .before .before .before .before .before) .at-d in (h .low, search needs)
 
 sixfold-volume-requires : tie.Need-sixfold-volume-requires
 sixfold-volume-requires c κs = search needs
