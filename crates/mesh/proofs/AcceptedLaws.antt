@@ -11,6 +11,7 @@ use lib.ListN.{length}
 use borrow.Author.Tests.{ltb-true, ltb-false}
 use Rattle.laws.specs.Words.{every}
 use Rattle.faults.specs.declared.Fault.the-variants.{Many, Room}
+use Rattle.faults.specs.declared.Finding.the-variants.{Clean}
 use Rattle.faults.specs.declared.Refusal.{Refusal}
 use Rattle.faults.specs.Refusals.{Verdict, accepted, refused, refuse, refusePair, refuseIf}
 use Rattle.solids.specs.Solids.{Element}
@@ -18,7 +19,7 @@ use Rattle.solids.specs.Fit.{proper, fitting}
 use Rattle.records.specs.Record.{width, recordFinding, recordAt, firstElements}
 use Rattle.records.proofs.Theorems.{first-length, first-proper}
 use Rattle.mesh.specs.Judge.{mostVertices, mostElements, faultIn, badRecord, badElement, misfit, judged}
-use Rattle.mesh.proofs.JudgeLaws.{records-whole}
+use Rattle.mesh.proofs.JudgeLaws.{record-clean, records-whole}
 use Rattle.mesh.proofs.FittingLaws.{none-bad-fitting}
 
 -- what was not refused passed the test, and is what came next
@@ -84,21 +85,27 @@ module _ (v n : ℕ) (t : List ℕ) (es : List Element) (e : judged v n t ≡ ac
   unfolding j
   no-bad-element = let h = ltb-false 0 j (p₅ .no) in omega arith
 
-  few : n ≤ mostElements
-  few = ltb-false mostElements n (p₂ .no)
+  pub accepted-vertices : v ≤ mostVertices
+  accepted-vertices = ltb-false mostVertices v (p₁ .no)
 
-  long : width * n ≤ length t
-  long = ltb-false (length t) (width * n) (p₃ .no)
+  pub accepted-count : n ≤ mostElements
+  accepted-count = ltb-false mostElements n (p₂ .no)
+
+  pub accepted-long : width * n ≤ length t
+  accepted-long = ltb-false (length t) (width * n) (p₃ .no)
+
+  pub accepted-clean : (k : ℕ) → k < n → recordFinding v (recordAt t k) ≡ Clean
+  accepted-clean = record-clean v t n no-bad-record
 
   pub accepted-elements : es ≡ firstElements t n
   unfolding last
   accepted-elements = let q = p₅ .rest in cc
 
   pub accepted-few : length es ≤ 1024
-  accepted-few = rw (accepted-elements, first-length t n) few
+  accepted-few = rw (accepted-elements, first-length t n) accepted-count
 
   pub accepted-proper : T (every proper es)
-  accepted-proper = rw accepted-elements (first-proper t n (records-whole v t n no-bad-record few long))
+  accepted-proper = rw accepted-elements (first-proper t n (records-whole v t n no-bad-record accepted-count accepted-long))
 
   pub accepted-fitting : T (fitting es)
   accepted-fitting = rw accepted-elements (none-bad-fitting t n no-bad-element)

@@ -3,9 +3,9 @@
 use mathlib.Core.Path.{_≡_, sym, _∙_}
 use mathlib.Core.List.{List, _∷_, _++_}
 use Prim.Native.Nat.{ℕ, _*_, _≤_, _<_}
-use lib.Dec.{T}
+use lib.Dec.{T, eqb}
 use lib.ListN.{length, getD}
-use Rattle.laws.specs.Words.{every}
+use Rattle.laws.specs.Words.{every, gather}
 use Rattle.faults.specs.declared.Finding.{Finding}
 use Rattle.faults.specs.declared.Finding.the-variants.{Clean}
 use Rattle.solids.specs.declared.Solid.{Solid}
@@ -15,6 +15,7 @@ use Rattle.solids.specs.Fit.{proper}
 use Rattle.records.specs.Record.{width, kindOf, usedOf, spareOf, cornerAt, solidOf, elementOf, recordFinding, recordAt, elementAt, firstElements, recordCount}
 use Rattle.records.specs.Loops.{isNumber, Faultless, Whole, WholeTable}
 use Rattle.records.proofs.RecordLaws as L
+use Rattle.records.proofs.GatheredLaws as G
 
 -- ---- two answers that a contract allows are equal
 
@@ -87,3 +88,11 @@ first-at = L.first-at
 
 pub first-proper : (t : List ℕ) (n : ℕ) → WholeTable t n → T (every proper (firstElements t n))
 first-proper = L.first-proper
+
+-- records that f makes, one after the other: their numbers, and the record at an index, whatever stands behind them
+pub gathered-length : {A : Type 0} (f : A → List ℕ) (l : List A) → T (every (λ x. eqb (length (f x)) width) l) → length (gather f l) ≡ width * length l
+gathered-length = G.gathered-length
+
+pub gathered-at : {A : Type 0} (f : A → List ℕ) (d : A) (l : List A) (rest : List ℕ) (k : ℕ) → T (every (λ x. eqb (length (f x)) width) l) → k < length l
+    → recordAt (gather f l ++ rest) k ≡ f (getD l k d)
+gathered-at = G.gathered-at

@@ -1,0 +1,9 @@
+-- What is proved of several entries together; Theorems states it.
+pub mod TableLaws
+pub mod AnswerLaws
+pub mod RelistedTables
+pub mod ReorderedTables
+pub mod TetrahedronRecord
+pub mod CutOfCutTables
+pub mod SurfaceOfTables
+pub mod Theorems

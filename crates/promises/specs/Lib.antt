@@ -1,0 +1,2 @@
+-- The words in which the promises of several entries are stated.
+pub mod Tables
