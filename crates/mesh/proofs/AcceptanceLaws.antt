@@ -3,22 +3,23 @@
 use mathlib.Core.Path.{_≡_, refl, sym, ap, subst}
 use mathlib.Core.Bool.{Bool, true, false, not}
 use mathlib.Core.List.{List, [], _∷_, _++_}
-use Prim.Native.Nat.{ℕ, zero, suc, _<_}
+use Prim.Native.Nat.{ℕ, zero, suc, _*_, _≤_, _<_}
 use native.Mathlib.Omega.{arith}
 use lib.Dec.{T, eqb, ltb}
+use lib.ListN.{length}
 use borrow.Author.Tests.{eqb-true, eqb-false, le-ltb}
 use Rattle.laws.specs.Words.{every}
 use Rattle.laws.proofs.TestLaws.{and-left, and-right, and-both, T-true}
-use Rattle.laws.proofs.EveryLaws.{every-index, every-front, every-rest}
+use Rattle.laws.proofs.EveryLaws.{every-front, every-rest}
 use Rattle.laws.proofs.SearchLaws.{least-none}
 use Rattle.faults.specs.declared.Finding.the-variants.{Clean}
 use Rattle.faults.specs.Refusals.{accepted}
 use Rattle.solids.specs.Solids.{Element}
-use Rattle.solids.specs.Fit.{fits, fitting}
-use Rattle.records.specs.Record.{recordFinding, recordCount, recordAt, elementAt, firstElements}
-use Rattle.mesh.specs.Judge.{isFault, badRecord, pairFits, misfit, badElement, judged}
+use Rattle.solids.specs.Fit.{proper, fits, fitting}
+use Rattle.records.specs.Record.{width, recordFinding, recordCount, recordAt, elementAt, firstElements}
+use Rattle.mesh.specs.Judge.{mostElements, isFault, badRecord, pairFits, misfit, badElement, judged}
 use Rattle.mesh.specs.Acceptance.{Acceptable}
-use Rattle.records.proofs.Theorems.{first-length, first-at}
+use Rattle.records.proofs.Theorems.{clean-whole, first-each, first-proper}
 use Rattle.mesh.proofs.VerdictLaws.{all-good}
 use Rattle.mesh.proofs.AcceptedLaws.{accepted-elements, accepted-vertices, accepted-count, accepted-long, accepted-clean, accepted-fitting}
 
@@ -34,10 +35,6 @@ fitting-before (e ∷ es) x h =
     )
 
 module _ (t : List ℕ) where
-  -- what all of the first n elements pass, each passes
-  first-every : (p : Element → Bool) (n : ℕ) → T (every p (firstElements t n)) → (k : ℕ) → k < n → T (p (elementAt t k))
-  first-every p n h k l = rw (first-at t n k (elementAt t k) l) at (every-index p (firstElements t n) (elementAt t k) k h (rw (first-length t n) l))
-
   -- every two of the first n elements fit: each pair below n fits
   pub fitting-pairs : (n : ℕ) → T (fitting (firstElements t n)) → (i j : ℕ) → i < j → j < n → T (pairFits t i j)
   unfolding firstElements pairFits
@@ -50,7 +47,7 @@ module _ (t : List ℕ) where
       go : (b : Bool) → eqb j n ≡ b → (j < n → T (fits (elementAt t i) (elementAt t j))) → T (fits (elementAt t i) (elementAt t j))
       go true e rest =
           let q = eqb-true j n e in
-          subst (λ (m : ℕ). T (fits (elementAt t i) (elementAt t m))) (sym q) (first-every (λ x. fits x (elementAt t n)) n (both .1) i (omega arith))
+          subst (λ (m : ℕ). T (fits (elementAt t i) (elementAt t m))) (sym q) (first-each t (λ x. fits x (elementAt t n)) n (both .1) i (omega arith))
       go false e rest = let q = eqb-false j n e in rest (omega arith)
 
   -- and none is bad
@@ -80,3 +77,12 @@ accepted-acceptable v n t es e = record {
   clean = accepted-clean v n t es e;
   fit = subst (λ (l : List Element). T (fitting l)) (accepted-elements v n t es e) (accepted-fitting v n t es e);
 }
+
+-- records without a fault hold proper elements
+pub clean-proper : (v n : ℕ) (t : List ℕ) → n ≤ mostElements → width * n ≤ length t → ((k : ℕ) → k < n → recordFinding v (recordAt t k) ≡ Clean)
+    → T (every proper (firstElements t n))
+clean-proper v n t few long clean =
+    first-proper t n (record { few = few; long = long; whole = λ k h. clean-whole v (recordAt t k) (clean k h) })
+
+pub acceptable-proper : (v n : ℕ) (t : List ℕ) → Acceptable v n t → T (every proper (firstElements t n))
+acceptable-proper v n t a = clean-proper v n t (a .elements) (a .long) (a .clean)

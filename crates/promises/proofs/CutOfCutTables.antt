@@ -10,7 +10,7 @@ use lib.ListN.{length, getD, length-map, List·getD-map}
 use Rattle.laws.specs.Words.{every, among, distinct, gather}
 use Rattle.laws.specs.Lent.{laid}
 use Rattle.laws.proofs.TestLaws.{and-left, and-right, and-both}
-use Rattle.laws.proofs.EveryLaws.{every-index, every-both, every-implies, every-append, among-every}
+use Rattle.laws.proofs.EveryLaws.{every-index, every-indexed, every-both, every-implies, every-append, among-every}
 use Rattle.faults.specs.declared.Fault.the-variants.{Room}
 use Rattle.faults.specs.declared.Finding.the-variants.{Clean}
 use Rattle.faults.specs.Refusals.{Verdict, accepted, refuse, refuseIf}
@@ -21,14 +21,13 @@ use Rattle.solids.specs.Listings.{asElement}
 use Rattle.solids.proofs.Theorems.{plain, again-fitting, again-cut}
 use Rattle.records.specs.Record.{width, elementOf, recordFinding, recordAt, elementAt, firstElements}
 use Rattle.records.specs.Loops.{isNumber}
-use Rattle.records.proofs.Theorems.{clean-faultless, faultless-clean, gathered-length, gathered-at}
+use Rattle.records.proofs.Theorems.{clean-faultless, faultless-clean, first-are, first-all, gathered-length, gathered-at}
 use Rattle.mesh.specs.Judge.{mostElements, judged}
 use Rattle.mesh.specs.Acceptance.{Acceptable}
 use Rattle.mesh.specs.Cutting.{tetWidth, flat, cutOf}
 use Rattle.mesh.proofs.Theorems.{accepted-elements, accepted-proper, accepted-fitting, accepted-acceptable, acceptable-accepted}
 use Rattle.promises.specs.Tables.{asRecord, asTable, tetrahedraIn}
 use Rattle.promises.proofs.TetrahedronRecord.{record-wide, record-element, isGood, record-faultless}
-use Rattle.promises.proofs.TableLaws.{every-indexed, first-are, first-every}
 use Rattle.promises.proofs.AnswerLaws.{accepted-first, DoneCut, done-tetrahedra}
 
 -- ---- tetrahedra as a table
@@ -83,7 +82,7 @@ mesh-good limit (e ∷ es) p h =
 
 acceptable-inside : (v n : ℕ) (t : List ℕ) → Acceptable v n t → T (every (inLimit v) (firstElements t n))
 unfolding elementAt elementOf
-acceptable-inside v n t a = first-every t n (inLimit v) (λ k h. clean-faultless v (recordAt t k) (a .clean k h) .inside)
+acceptable-inside v n t a = first-all t (inLimit v) n (λ k h. clean-faultless v (recordAt t k) (a .clean k h) .inside)
 
 module _ (v n : ℕ) (t : List ℕ) (es : List Element) (e : judged v n t ≡ accepted es) where
   -- vertex numbers of the cut are the mesh's, and no tetrahedron has one twice

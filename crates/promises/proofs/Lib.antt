@@ -1,9 +1,10 @@
 -- What is proved of several entries together; Theorems states it.
-pub mod TableLaws
 pub mod AnswerLaws
 pub mod RelistedTables
+pub mod RelistedRecords
 pub mod ReorderedTables
 pub mod TetrahedronRecord
 pub mod CutOfCutTables
 pub mod SurfaceOfTables
+pub mod OneCut
 pub mod Theorems

@@ -13,7 +13,6 @@ use borrow.Author.Tests.{eq-eqb, ltb-true, ltb-false}
 use Rattle.laws.specs.Words.{count, every, some, among, distinct}
 use Rattle.laws.specs.Lent.{laid}
 use Rattle.laws.proofs.TestLaws.{and-left, and-right, and-both, or-cases, or-left, or-right}
-use Rattle.laws.proofs.EveryLaws.{every-index}
 use Rattle.laws.proofs.SearchLaws.{least-cong, least-most}
 use Rattle.faults.specs.declared.Fault.the-variants.{Many, Room, Range}
 use Rattle.faults.specs.declared.Finding.{Finding}
@@ -37,9 +36,9 @@ use Rattle.mesh.specs.declared.SignAnswer.{SignAnswer}
 use Rattle.mesh.specs.Cutting.{tetWidth, flat, cutOf, CutDone}
 use Rattle.mesh.specs.Signs.{vertexWidth, isPositive, sound, signCounts, badPoint, signsOf, SignDone, isAccepted}
 use Rattle.mesh.proofs.JudgeLaws.{record-clean}
-use Rattle.records.proofs.Theorems.{first-at, first-length}
+use Rattle.mesh.proofs.AcceptanceLaws.{clean-proper}
+use Rattle.records.proofs.Theorems.{first-each}
 use Rattle.promises.specs.Tables.{RecordRelisted, TableRelisted}
-use Rattle.promises.proofs.TableLaws.{clean-proper}
 use Rattle.promises.proofs.AnswerLaws.{never-both}
 
 -- ---- the corners of a relisted element: the same numbers, as different as they were
@@ -68,7 +67,7 @@ relists-some P {e = element s vs} (by-rotation ρ r m p) =
     (some-sub P (map (at vs) ρ) vs (alike-home s vs m ρ r .there))
     (some-sub P vs (map (at vs) ρ) (alike-there s vs m ρ r .there))
 
-rotation-long : (s : Solid) (ρ : List ℕ) → T (isRotation s ρ) → length ρ ≡ corners s
+pub rotation-long : (s : Solid) (ρ : List ℕ) → T (isRotation s ρ) → length ρ ≡ corners s
 rotation-long s ρ r =
     eqb→eq (length ρ) (corners s)
     (and-left (eqb (length ρ) (corners s)) _ (and-left (isReordering s ρ) (keepsFaces s ρ) r))
@@ -201,9 +200,7 @@ module _ (v n : ℕ) where
 
     module _ (all : T (every proper (firstElements t n))) where
       proper-at : (k : ℕ) → k < n → T (proper (elementAt t k))
-      proper-at k h =
-          subst (λ (e : Element). T (proper e)) (first-at t n k (elementAt t k) h)
-          (every-index proper (firstElements t n) (elementAt t k) k all (subst (λ (m : ℕ). k < m) (sym (first-length t n)) h))
+      proper-at = first-each t proper n all
 
       pair-alike : (i j : ℕ) → i < n → j < n → pairFits t′ i j ≡ pairFits t i j
       unfolding pairFits

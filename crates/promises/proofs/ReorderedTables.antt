@@ -25,14 +25,14 @@ use Rattle.solids.proofs.SetLaws.{among-cases}
 use Rattle.solids.proofs.SideLaws.{bool-iff}
 use Rattle.solids.proofs.Theorems.{order-names, reordered-fitting, reordered-many, reordered-cut}
 use Rattle.records.specs.Record.{width, elementOf, recordFinding, recordAt, elementAt, firstElements}
-use Rattle.records.proofs.Theorems.{record-length, first-length, first-at, gathered-length, gathered-at}
+use Rattle.records.proofs.Theorems.{record-length, first-length, first-at, first-are, gathered-length, gathered-at}
 use Rattle.mesh.specs.Judge.{judged}
 use Rattle.mesh.specs.Acceptance.{Acceptable}
 use Rattle.mesh.specs.Cutting.{tetWidth, flat, cutOf}
 use Rattle.mesh.specs.Signs.{isAccepted}
+use Rattle.mesh.proofs.AcceptanceLaws.{clean-proper, acceptable-proper}
 use Rattle.mesh.proofs.Theorems.{accepted-elements, accepted-acceptable, acceptable-accepted}
 use Rattle.promises.specs.Tables.{TableReordered, reordered, blocksInOrder}
-use Rattle.promises.proofs.TableLaws.{first-are, clean-proper, acceptable-proper}
 use Rattle.promises.proofs.AnswerLaws.{is-accepted, DoneCut}
 
 -- ---- an order

@@ -10,7 +10,6 @@ use lib.Dec.{T, ltb}
 use lib.ListN.{length}
 use borrow.Author.Tests.{ltb-true, ltb-false}
 use Rattle.laws.specs.Words.{every, among, gather}
-use Rattle.laws.proofs.EveryLaws.{every-index}
 use Rattle.faults.specs.Refusals.{accepted}
 use Rattle.solids.specs.Solids.{Vertex, Face, four, Tri, Tet, Element, ofFace, ofTet, cornersOf, facesOf}
 use Rattle.solids.specs.Cut.{turned, turns, halves, cutFace, cut, cutMesh}
@@ -18,13 +17,12 @@ use Rattle.solids.specs.Fit.{proper, sameSet, fits, outerFaces}
 use Rattle.solids.specs.Surface.{back, times, owners, SurfaceCut, CutAlike}
 use Rattle.solids.proofs.Theorems.{fits-sym, cut-alike, own-vertices, cut-of}
 use Rattle.records.specs.Record.{usedOf, elementOf, recordAt, elementAt, firstElements}
-use Rattle.records.proofs.Theorems.{first-at, first-length}
+use Rattle.records.proofs.Theorems.{first-each, first-member}
 use Rattle.mesh.specs.Judge.{pairFits, judged}
 use Rattle.mesh.specs.Acceptance.{Acceptable}
-use Rattle.mesh.proofs.AcceptanceLaws.{fitting-pairs}
+use Rattle.mesh.proofs.AcceptanceLaws.{fitting-pairs, acceptable-proper}
 use Rattle.mesh.proofs.Theorems.{accepted-elements, accepted-acceptable, accepted-surface}
 use Rattle.promises.specs.Tables.{tetrahedraIn, cutSurface, SurfaceIsCut}
-use Rattle.promises.proofs.TableLaws.{first-member, acceptable-proper}
 use Rattle.promises.proofs.AnswerLaws.{DoneCut, done-tetrahedra}
 
 -- the two forms of the surface say the same: from counts to sides
@@ -70,9 +68,7 @@ module _ (v n : ℕ) (t : List ℕ) (es : List Element) (e : judged v n t ≡ ac
   good = accepted-acceptable v n t es e
 
   proper-at : (k : ℕ) → k < n → T (proper (elementAt t k))
-  proper-at k h =
-      subst (λ (x : Element). T (proper x)) (first-at t n k (elementAt t k) h)
-      (every-index proper (firstElements t n) (elementAt t k) k (acceptable-proper v n t good) (subst (λ (m : ℕ). k < m) (sym (first-length t n)) h))
+  proper-at = first-each t proper n (acceptable-proper v n t good)
 
   -- every two elements of the table fit, whichever comes first
   fits-at : (i j : ℕ) → i < n → j < n → i ≢ j → T (fits (elementAt t i) (elementAt t j))

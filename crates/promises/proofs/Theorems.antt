@@ -5,42 +5,47 @@
 use mathlib.Core.Path.{_≡_, refl, sym, ap, subst, _∙_}
 use mathlib.Core.List.{List, [], _∷_, map, List·Memᴰ}
 use mathlib.Core.Logic.{_≢_}
-use Prim.Native.Nat.{ℕ, _*_, _≤_, _<_}
+use Prim.Native.Nat.{ℕ, _+_, _*_, _≤_, _<_}
 use lib.Dec.{T}
 use lib.IntN.{ℤ}
-use lib.ListN.{length}
+use lib.ListN.{length, getD}
 use Rattle.laws.specs.Words.{every, among}
 use Rattle.laws.specs.Lent.{laid}
 use Rattle.laws.proofs.EveryLaws.{every-implies}
 use Rattle.laws.proofs.TestLaws.{and-left}
 use Rattle.faults.specs.declared.Refusal.{Refusal}
 use Rattle.faults.specs.Refusals.{Verdict, accepted, refused, andThen}
-use Rattle.solids.specs.Solids.{Vertex, Face, four, Tet, Element, ofFace, ofTet, facesOf}
+use Rattle.solids.specs.Solids.{Place, Vertex, Face, four, Tet, Element, ofFace, ofTet, facesOf}
+use Rattle.solids.specs.Rotations.{isRotation}
 use Rattle.solids.specs.Cut.{cutFace, cut, cutMesh}
 use Rattle.solids.specs.Fit.{sameSet}
 use Rattle.solids.specs.Surface.{SurfaceCut, CutAlike}
 use Rattle.solids.specs.Listings.{isOrder, asElement}
 use Rattle.solids.proofs.Theorems.{again-cut}
-use Rattle.records.specs.Record.{width, usedOf, elementOf, recordFinding, recordAt, elementAt, firstElements}
-use Rattle.records.specs.Loops.{isNumber, Whole}
+use Rattle.records.specs.Record.{width, kindOf, usedOf, solidOf, elementOf, recordFinding, recordAt, elementAt, firstElements}
+use Rattle.records.specs.Loops.{isNumber, Whole, WholeTable}
 use Rattle.records.proofs.Theorems.{whole-proper}
 use Rattle.mesh.specs.declared.JudgeAnswer.{JudgeAnswer}
 use Rattle.mesh.specs.declared.JudgeAnswer.the-variants as judge
 use Rattle.mesh.specs.declared.CutCounts.{CutCounts}
 use Rattle.mesh.specs.declared.CutAnswer.{CutAnswer}
 use Rattle.mesh.specs.declared.CutAnswer.the-variants as answer
+use Rattle.mesh.specs.declared.SignCounts.{SignCounts}
 use Rattle.mesh.specs.declared.SignAnswer.{SignAnswer}
+use Rattle.mesh.specs.declared.SignAnswer.the-variants as sign
 use Rattle.mesh.specs.Judge.{mostElements, judged, JudgeDone}
 use Rattle.mesh.specs.Cutting.{flat, cutOf, CutDone}
 use Rattle.mesh.specs.Signs.{SignDone, isAccepted}
 use Rattle.mesh.proofs.Theorems.{judge-unique, cut-unique, sign-unique, accepted-proper, accepted-surface}
-use Rattle.promises.specs.Tables.{RecordRelisted, TableRelisted, TableReordered, reordered, blocksInOrder, asTable, tetrahedraIn, SurfaceIsCut}
+use Rattle.promises.specs.Tables.{RecordRelisted, TableRelisted, relistedRecord, relistedTable, TableReordered, reordered, blocksInOrder, asTable, tetrahedraIn, SurfaceIsCut}
 use Rattle.promises.proofs.AnswerLaws as AnswerLaws
 use Rattle.promises.proofs.RelistedTables as RelistedTables
+use Rattle.promises.proofs.RelistedRecords as RelistedRecords
 use Rattle.promises.proofs.ReorderedTables as ReorderedTables
 use Rattle.promises.proofs.TetrahedronRecord.{isGood}
 use Rattle.promises.proofs.CutOfCutTables as CutOfCutTables
 use Rattle.promises.proofs.SurfaceOfTables as SurfaceOfTables
+use Rattle.promises.proofs.OneCut as OneCut
 
 -- ---- the output: a done answer counts the cut of the table's elements, and its tetrahedra stand in the lent memory
 
@@ -79,6 +84,14 @@ relisted-record-cut r r′ w h = RelistedTables.relists-cut (w .corners) (whole-
 -- and the same first fault
 pub relisted-record-finding : (limit : ℕ) (r r′ : List ℕ) → RecordRelisted r r′ → recordFinding limit r′ ≡ recordFinding limit r
 relisted-record-finding limit r r′ w = RelistedTables.finding-relisted r r′ w limit
+
+-- every record without a fault can be relisted by every rotation of its solid, and all records of a table, each by its own
+pub relisted-record : (r : List ℕ) → Whole r → (ρ : List Place) → T (isRotation (solidOf (kindOf r)) ρ) → RecordRelisted r (relistedRecord ρ r)
+relisted-record = RelistedRecords.relisted-record
+
+pub relisted-table : (n : ℕ) (t : List ℕ) → WholeTable t n → (ρs : List (List Place)) → length ρs ≡ n
+    → ((k : ℕ) → k < n → T (isRotation (solidOf (kindOf (recordAt t k))) (getD ρs k []))) → TableRelisted n t (relistedTable ρs t)
+relisted-table = RelistedRecords.relisted-table
 
 -- a table in which any records are relisted is accepted exactly if it was, and refused with the same refusal
 pub relisted-accepted : (v n : ℕ) (t t′ : List ℕ) → TableRelisted n t t′ → isAccepted (judged v n t′) ≡ isAccepted (judged v n t)
@@ -209,7 +222,12 @@ no-new-vertex v n t es e =
     every-implies (isGood v) (λ u. every (isNumber v) (ofTet u)) (λ u h. and-left (every (isNumber v) (ofTet u)) _ h) (cutMesh es)
     (CutOfCutTables.accepted-good v n t es e)
 
--- the cut reads no coordinate: whatever two vertex tables stand beside an element table, they give one answer and one output
+-- the cut reads no coordinate: whatever two vertex tables stand beside an element table, cutting gives one answer and one output (its contract takes none)
 pub no-coordinate : (vertices vertices′ : List ℤ) (v n : ℕ) (t old : List ℕ) (r s : CutAnswer) (new new′ : List ℕ)
     → CutDone v n t old r new → CutDone v n t old s new′ → (r ≡ s) × (new ≡ new′)
 no-coordinate vertices vertices′ = cut-unique
+
+-- and the sign report, which does read coordinates, counts the tetrahedra of that one cut with every vertex table that it accepts
+pub signs-of-one-cut : (v n : ℕ) (t : List ℕ) (vertices : List ℤ) (c : SignCounts) → SignDone v n t vertices (sign.Done c)
+    → c .positive + c .zero + c .negative ≡ length (cutMesh (firstElements t n))
+signs-of-one-cut = OneCut.one-cut

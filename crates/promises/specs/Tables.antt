@@ -1,17 +1,17 @@
 -- Demand 3 for tables: tables listed in other ways, tetrahedra as a table and in lent memory, and the surface of the tetrahedra.
 use mathlib.Core.Path.{_≡_}
-use mathlib.Core.List.{List, [], _∷_, _++_, map}
+use mathlib.Core.List.{List, [], _∷_, map}
 use Prim.Native.Nat.{ℕ, zero, suc, _≤_, _<_}
 use lib.Dec.{T}
 use lib.ListN.{length, getD, drop}
 use Rattle.laws.specs.Words.{gather}
 use Rattle.laws.specs.Lent.{laid}
-use Rattle.solids.specs.Solids.{Vertex, Tri, Tet, tet, Element, ofTet}
+use Rattle.solids.specs.Solids.{Place, Vertex, Tri, Tet, tet, Element, at, ofTet}
 use Rattle.solids.specs.Cut.{cutFace, cut}
 use Rattle.solids.specs.Fit.{outerFaces}
 use Rattle.solids.specs.Surface.{back, times, owners}
 use Rattle.solids.specs.Listings.{Relists, isOrder, picked}
-use Rattle.records.specs.Record.{kindOf, spareOf, elementOf, recordAt}
+use Rattle.records.specs.Record.{kindOf, usedOf, spareOf, recordOf, elementOf, recordAt}
 use Rattle.mesh.specs.Cutting.{tetWidth}
 
 -- ---- relisting
@@ -27,6 +27,19 @@ pub record RecordRelisted (r r′ : List ℕ) : Type 0 where
 pub record TableRelisted (n : ℕ) (t t′ : List ℕ) : Type 0 where
   pub long : length t′ ≡ length t
   pub each : (k : ℕ) → k < n → RecordRelisted (recordAt t k) (recordAt t′ k)
+
+-- such a record: its place i holds what stood at place ρ i
+abbrev pub relistedRecord : List Place → List ℕ → List ℕ
+relistedRecord ρ r = recordOf (kindOf r) (map (at (usedOf r)) ρ) (spareOf r)
+
+-- the records of a table from the index i on, relisted one by one
+unfoldable pub relistedRecords : List (List Place) → ℕ → List ℕ → List (List ℕ)
+relistedRecords [] i t = []
+relistedRecords (ρ ∷ ρs) i t = relistedRecord ρ (recordAt t i) ∷ relistedRecords ρs (suc i) t
+
+-- such a table: its first records relisted one by one, then what stood behind them
+unfoldable pub relistedTable : List (List Place) → List ℕ → List ℕ
+relistedTable ρs t = laid (gather (λ r. r) (relistedRecords ρs 0 t)) t
 
 -- ---- reordering
 
@@ -48,7 +61,7 @@ blocksInOrder σ es = gather (λ b. b) (picked [] σ (map cut es))
 
 -- a tetrahedron as an element record: kind 4, its four vertex numbers, unused ones zero
 abbrev pub asRecord : Tet Vertex → List ℕ
-asRecord t = 4 ∷ (ofTet t ++ (0 ∷ 0 ∷ 0 ∷ 0 ∷ []))
+asRecord t = recordOf 4 (ofTet t) (0 ∷ 0 ∷ 0 ∷ 0 ∷ [])
 
 -- tetrahedra as a table of element records
 unfoldable pub asTable : List (Tet Vertex) → List ℕ
