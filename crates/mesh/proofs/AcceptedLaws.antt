@@ -1,19 +1,18 @@
 -- What an accepted table is: its elements are few, proper and fit.
 -- Assumes nothing.
-use mathlib.Core.Path.{_≡_, refl, sym, ap, _∙_, subst}
-use mathlib.Core.Bool.{Bool, true, false, cond}
-use mathlib.Core.List.{List, []}
-use Prim.Native.Nat.{ℕ, zero, suc, _*_, pred, _≤_, _<_}
-use native.Mathlib.Nat.{le-refl}
+use mathlib.Core.Path.{_≡_, refl}
+use mathlib.Core.Bool.{Bool, true, false}
+use mathlib.Core.List.{List}
+use Prim.Native.Nat.{ℕ, _*_, pred, _≤_, _<_}
 use native.Mathlib.Omega.{arith}
 use lib.Dec.{T, ltb}
 use lib.ListN.{length}
-use borrow.Author.Tests.{ltb-true, ltb-false}
+use borrow.Author.Tests.{ltb-false}
 use Rattle.laws.specs.Words.{every}
 use Rattle.faults.specs.declared.Fault.the-variants.{Many, Room}
 use Rattle.faults.specs.declared.Finding.the-variants.{Clean}
 use Rattle.faults.specs.declared.Refusal.{Refusal}
-use Rattle.faults.specs.Refusals.{Verdict, accepted, refused, refuse, refusePair, refuseIf}
+use Rattle.faults.specs.Refusals.{Verdict, accepted, refuse, refusePair, refuseIf}
 use Rattle.solids.specs.Solids.{Element}
 use Rattle.solids.specs.Fit.{proper, fitting}
 use Rattle.records.specs.Record.{width, recordFinding, recordAt, firstElements}

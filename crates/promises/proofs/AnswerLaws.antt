@@ -3,7 +3,7 @@
 use mathlib.Core.Path.{_≡_, refl, sym, ap, subst, _∙_}
 use mathlib.Core.Bool.{Bool, true, false}
 use mathlib.Core.List.{List, [], _∷_, _++_}
-use Prim.Native.Nat.{ℕ, _*_, _≤_, _<_}
+use Prim.Native.Nat.{ℕ, _*_, _≤_}
 use native.Mathlib.Omega.{arith}
 use lib.Dec.{T, ltb}
 use lib.ListN.{length, drop}
@@ -17,12 +17,10 @@ use Rattle.faults.proofs.Theorems.{answer-tells-verdict}
 use Rattle.solids.specs.Solids.{Vertex, Tet, tet, Element, ofTet}
 use Rattle.solids.specs.Cut.{cutMesh}
 use Rattle.records.specs.Record.{firstElements}
-use Rattle.mesh.specs.declared.JudgeAnswer.{JudgeAnswer}
 use Rattle.mesh.specs.declared.JudgeAnswer.the-variants as judge
-use Rattle.mesh.specs.declared.CutAnswer.{CutAnswer}
 use Rattle.mesh.specs.declared.CutAnswer.the-variants as cut
-use Rattle.mesh.specs.Judge.{judged, judgeVerdict, JudgeDone}
-use Rattle.mesh.specs.Cutting.{tetWidth, flat, cutOf, cutVerdict, CutDone}
+use Rattle.mesh.specs.Judge.{judged, JudgeDone}
+use Rattle.mesh.specs.Cutting.{tetWidth, flat, cutOf, CutDone}
 use Rattle.mesh.specs.Signs.{isAccepted}
 use Rattle.mesh.proofs.Theorems.{accepted-elements}
 use Rattle.promises.specs.Tables.{tetrahedraIn}

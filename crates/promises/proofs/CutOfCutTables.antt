@@ -1,19 +1,18 @@
 -- The cut of a cut, for tables: the tetrahedra of an accepted table, given as TE records, are accepted and cut to themselves.
 -- Assumes nothing.
-use mathlib.Core.Path.{_≡_, refl, sym, ap, subst, _∙_}
-use mathlib.Core.Bool.{Bool, true, false, _&&_}
+use mathlib.Core.Path.{_≡_, sym, ap, subst, _∙_}
+use mathlib.Core.Bool.{Bool}
 use mathlib.Core.List.{List, [], _∷_, _++_, map, append-nil}
 use Prim.Native.Nat.{ℕ, _*_, _≤_, _<_}
 use native.Mathlib.Omega.{arith}
 use lib.Dec.{T, eqb}
-use lib.ListN.{length, getD, length-map, List·getD-map}
+use lib.ListN.{length, getD, length-append, length-map, List·getD-map}
 use Rattle.laws.specs.Words.{every, among, distinct, gather}
 use Rattle.laws.specs.Lent.{laid}
 use Rattle.laws.proofs.TestLaws.{and-left, and-right, and-both}
 use Rattle.laws.proofs.EveryLaws.{every-index, every-indexed, every-both, every-implies, every-append, among-every}
-use Rattle.faults.specs.declared.Fault.the-variants.{Room}
 use Rattle.faults.specs.declared.Finding.the-variants.{Clean}
-use Rattle.faults.specs.Refusals.{Verdict, accepted, refuse, refuseIf}
+use Rattle.faults.specs.Refusals.{accepted}
 use Rattle.solids.specs.Solids.{Vertex, Tet, tet, Element, ofTet, cornersOf}
 use Rattle.solids.specs.Cut.{cut, cutMesh}
 use Rattle.solids.specs.Fit.{proper, fitting}
@@ -26,7 +25,7 @@ use Rattle.mesh.specs.Judge.{mostElements, judged}
 use Rattle.mesh.specs.Acceptance.{Acceptable}
 use Rattle.mesh.specs.Cutting.{tetWidth, flat, cutOf}
 use Rattle.mesh.proofs.Theorems.{accepted-elements, accepted-proper, accepted-fitting, accepted-acceptable, acceptable-accepted}
-use Rattle.promises.specs.Tables.{asRecord, asTable, tetrahedraIn}
+use Rattle.promises.specs.Tables.{asRecord, asTable, BeginsWith, tetrahedraIn}
 use Rattle.promises.proofs.TetrahedronRecord.{record-wide, record-element, isGood, record-faultless}
 use Rattle.promises.proofs.AnswerLaws.{accepted-first, DoneCut, done-tetrahedra}
 
@@ -39,24 +38,28 @@ module _ (ts : List (Tet Vertex)) where
   all-wide : T (every (λ u. eqb (length (asRecord u)) width) ts)
   all-wide = every-indexed (λ u. eqb (length (asRecord u)) width) d ts (λ k h. record-wide (getD ts k d))
 
-  pub table-length : length (asTable ts) ≡ width * length ts
+  -- the table of tetrahedra begins with them, whatever stands behind it
+  pub table-begins : (rest : List ℕ) → BeginsWith ts (asTable ts ++ rest)
   unfolding asTable
-  table-length = gathered-length asRecord ts all-wide
+  table-begins rest = record {
+    long = let l = gathered-length asRecord ts all-wide in simp length-append (omega arith);
+    each = λ k h. gathered-at asRecord d ts rest k all-wide h;
+  }
 
-  pub table-record : (k : ℕ) → k < length ts → recordAt (asTable ts) k ≡ asRecord (getD ts k d)
-  unfolding asTable
-  table-record k h = ap (λ (l : List ℕ). recordAt l k) (sym (append-nil (gather asRecord ts))) ∙ gathered-at asRecord d ts [] k all-wide h
+  pub table-alone : BeginsWith ts (asTable ts)
+  table-alone = subst (BeginsWith ts) (append-nil (asTable ts)) (table-begins [])
 
-  pub table-elements : firstElements (asTable ts) (length ts) ≡ map asElement ts
-  unfolding elementAt
-  table-elements =
-      first-are (asTable ts) (length ts) (asElement d) (map asElement ts) (length-map ts asElement)
-      (λ k h. ap elementOf (table-record k h) ∙ record-element (getD ts k d) ∙ sym (List·getD-map asElement ts k d))
+  module _ (t : List ℕ) (w : BeginsWith ts t) where
+    table-elements : firstElements t (length ts) ≡ map asElement ts
+    unfolding elementAt
+    table-elements =
+        first-are t (length ts) (asElement d) (map asElement ts) (length-map ts asElement)
+        (λ k h. ap elementOf (w .each k h) ∙ record-element (getD ts k d) ∙ sym (List·getD-map asElement ts k d))
 
-  table-clean : (limit : ℕ) → T (every (isGood limit) ts) → (k : ℕ) → k < length ts → recordFinding limit (recordAt (asTable ts) k) ≡ Clean
-  table-clean limit g k h =
-      ap (recordFinding limit) (table-record k h)
-      ∙ faultless-clean limit (asRecord (getD ts k d)) (record-faultless limit (getD ts k d) (every-index (isGood limit) ts d k g h))
+    table-clean : (limit : ℕ) → T (every (isGood limit) ts) → (k : ℕ) → k < length ts → recordFinding limit (recordAt t k) ≡ Clean
+    table-clean limit g k h =
+        ap (recordFinding limit) (w .each k h)
+        ∙ faultless-clean limit (asRecord (getD ts k d)) (record-faultless limit (getD ts k d) (every-index (isGood limit) ts d k g h))
 
 -- ---- the tetrahedra of a cut are such
 
@@ -91,24 +94,24 @@ module _ (v n : ℕ) (t : List ℕ) (es : List Element) (e : judged v n t ≡ ac
       mesh-good v es (accepted-proper v n t es e)
       (subst (λ (l : List Element). T (every (inLimit v) l)) (sym (accepted-elements v n t es e)) (acceptable-inside v n t (accepted-acceptable v n t es e)))
 
-  module _ (few : length (cutMesh es) ≤ mostElements) where
-    again-acceptable : Acceptable v (length (cutMesh es)) (asTable (cutMesh es))
+  module _ (few : length (cutMesh es) ≤ mostElements) (t′ : List ℕ) (w : BeginsWith (cutMesh es) t′) where
+    again-acceptable : Acceptable v (length (cutMesh es)) t′
     again-acceptable = record {
       vertices = accepted-acceptable v n t es e .vertices;
       elements = few;
-      long = let l = table-length (cutMesh es) in omega arith;
-      clean = table-clean (cutMesh es) v accepted-good;
+      long = w .long;
+      clean = table-clean (cutMesh es) t′ w v accepted-good;
       fit =
-          subst (λ (l : List Element). T (fitting l)) (sym (table-elements (cutMesh es)))
+          subst (λ (l : List Element). T (fitting l)) (sym (table-elements (cutMesh es) t′ w))
           (again-fitting es (accepted-proper v n t es e) (accepted-fitting v n t es e));
     }
 
     -- accepted, with the tetrahedra for elements
-    pub again-accepted : judged v (length (cutMesh es)) (asTable (cutMesh es)) ≡ accepted (map asElement (cutMesh es))
-    again-accepted = acceptable-accepted v (length (cutMesh es)) (asTable (cutMesh es)) again-acceptable ∙ ap accepted (table-elements (cutMesh es))
+    pub again-accepted : judged v (length (cutMesh es)) t′ ≡ accepted (map asElement (cutMesh es))
+    again-accepted = acceptable-accepted v (length (cutMesh es)) t′ again-acceptable ∙ ap accepted (table-elements (cutMesh es) t′ w)
 
     -- and cut to themselves, or refused for its room as the cut is
-    pub again-alike : (room : ℕ) → cutOf v (length (cutMesh es)) (asTable (cutMesh es)) room ≡ cutOf v n t room
+    pub again-alike : (room : ℕ) → cutOf v (length (cutMesh es)) t′ room ≡ cutOf v n t room
     unfolding cutOf
     again-alike room = rw (again-accepted, e, again-cut es (accepted-proper v n t es e))
 
@@ -126,21 +129,22 @@ module _ (v n : ℕ) (t old : List ℕ) (many : ℕ) (new : List ℕ) (d : DoneC
   few-of-cut : length ts ≤ mostElements
   few-of-cut = let m = d .many in omega arith
 
-  again-same : cutMesh (firstElements (asTable ts) (length ts)) ≡ ts
-  again-same = ap cutMesh (table-elements ts) ∙ again-cut es (accepted-proper v n t es e)
+  module _ (t′ : List ℕ) where
+    again-same : BeginsWith ts t′ → cutMesh (firstElements t′ (length ts)) ≡ ts
+    again-same w = ap cutMesh (table-elements ts t′ w) ∙ again-cut es (accepted-proper v n t es e)
 
-  again-cuts : DoneCut v (length ts) (asTable ts) old (length ts) new
-  again-cuts =
-      record {
-        cuts = record {
-          elements = accepted-first v (length ts) (asTable ts) (map asElement ts) (again-accepted v n t es e few-of-cut);
-          fits = subst (λ (us : List (Tet Vertex)). tetWidth * length us ≤ length old) (sym again-same) (d .cuts .fits);
-        };
-        many = ap length (sym again-same);
-        output = d .output ∙ ap (λ (us : List (Tet Vertex)). laid (flat us) old) (sym again-same);
-      }
+    again-cuts : BeginsWith ts t′ → DoneCut v (length ts) t′ old (length ts) new
+    again-cuts w =
+        record {
+          cuts = record {
+            elements = accepted-first v (length ts) t′ (map asElement ts) (again-accepted v n t es e few-of-cut t′ w);
+            fits = subst (λ (us : List (Tet Vertex)). tetWidth * length us ≤ length old) (sym (again-same w)) (d .cuts .fits);
+          };
+          many = ap length (sym (again-same w));
+          output = d .output ∙ ap (λ (us : List (Tet Vertex)). laid (flat us) old) (sym (again-same w));
+        }
 
-  pub again-done : DoneCut v many (asTable (tetrahedraIn many new)) old many new
-  again-done =
-      subst (λ (us : List (Tet Vertex)). DoneCut v many (asTable us) old many new) (sym (done-tetrahedra v n t old many new d))
-      (subst (λ (k : ℕ). DoneCut v k (asTable ts) old k new) (sym (d .many)) again-cuts)
+    pub again-done : BeginsWith (tetrahedraIn many new) t′ → DoneCut v many t′ old many new
+    again-done w =
+        subst (λ (k : ℕ). DoneCut v k t′ old k new) (sym (d .many))
+        (again-cuts (subst (λ (us : List (Tet Vertex)). BeginsWith us t′) (done-tetrahedra v n t old many new d) w))

@@ -1,6 +1,6 @@
 -- Whatever the vertex table, the sign report counts the tetrahedra of one cut.
 -- Assumes nothing.
-use mathlib.Core.Path.{_≡_, refl, sym, ap, _∙_}
+use mathlib.Core.Path.{_≡_, refl, ap, _∙_}
 use mathlib.Core.Bool.{Bool, true, false}
 use mathlib.Core.List.{List, [], _∷_}
 use Prim.Native.Nat.{ℕ, _+_, _*_}
@@ -18,7 +18,7 @@ use Rattle.records.specs.Record.{firstElements}
 use Rattle.mesh.specs.declared.SignCounts.{SignCounts}
 use Rattle.mesh.specs.declared.SignAnswer.the-variants as sign
 use Rattle.mesh.specs.Judge.{judged}
-use Rattle.mesh.specs.Signs.{vertexWidth, signCounts, badPoint, signsOf, signVerdict, SignDone}
+use Rattle.mesh.specs.Signs.{vertexWidth, signCounts, badPoint, signsOf, SignDone}
 use Rattle.mesh.specs.SignLoops.{ofCounts}
 use Rattle.mesh.proofs.Theorems.{accepted-elements}
 use Rattle.mesh.proofs.SignLaws.{counts-add, from-list}

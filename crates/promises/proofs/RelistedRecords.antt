@@ -1,9 +1,8 @@
 -- Every record without a fault can be relisted by every rotation of its solid, and so can all records of a table, each by its own.
 -- Assumes nothing.
 use mathlib.Core.Path.{_≡_, refl, sym, ap, ap₂, subst, _∙_}
-use mathlib.Core.Bool.{Bool}
-use mathlib.Core.List.{List, [], _∷_, _++_, map}
-use Prim.Native.Nat.{ℕ, zero, suc, _+_, _*_, _≤_, _<_}
+use mathlib.Core.List.{List, [], _∷_, map}
+use Prim.Native.Nat.{ℕ, zero, suc, _+_, _<_}
 use native.Mathlib.Nat.{add-zero, zero-add, not-suc-le-zero, le-of-suc-le-suc}
 use native.Mathlib.Omega.{arith}
 use lib.Dec.{T, eqb}
@@ -16,7 +15,7 @@ use Rattle.laws.proofs.EveryLaws.{every-indexed}
 use Rattle.solids.specs.Solids.{Place, Element, element, corners, at}
 use Rattle.solids.specs.Rotations.{isRotation}
 use Rattle.solids.specs.Listings.{Relists, by-rotation}
-use Rattle.records.specs.Record.{width, kindOf, usedOf, spareOf, recordOf, solidOf, elementOf, recordAt}
+use Rattle.records.specs.Record.{width, kindOf, usedOf, spareOf, solidOf, elementOf, recordAt}
 use Rattle.records.specs.Loops.{Whole, WholeTable}
 use Rattle.records.proofs.RecordLaws.{kind-corners, used-length}
 use Rattle.records.proofs.Theorems.{record-parts, made-length, made-kind, made-used, made-spare, gathered-length, gathered-at}

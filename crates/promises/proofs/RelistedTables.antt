@@ -4,7 +4,7 @@ use mathlib.Core.Path.{_≡_, refl, sym, ap, ap₂, subst, _∙_}
 use mathlib.Core.Bool.{Bool, true, false, cond, not, _&&_, _||_}
 use mathlib.Core.List.{List, [], _∷_, _++_, map, append-nil}
 use mathlib.Core.Logic.{_⊎_, inl, inr}
-use Prim.Native.Nat.{ℕ, zero, suc, _+_, _*_, pred, _≤_, _<_}
+use Prim.Native.Nat.{ℕ, zero, suc, _+_, _*_, pred, _<_}
 use native.Mathlib.Omega.{arith}
 use lib.Dec.{T, eqb, ltb, eqb→eq}
 use lib.IntN.{ℤ}
@@ -20,7 +20,7 @@ use Rattle.faults.specs.declared.Refusal.{Refusal}
 use Rattle.faults.specs.Refusals.{Verdict, accepted, refused, refuse, refusePair, refuseIf, andThen, recordsOf, answerOf}
 use Rattle.solids.specs.declared.Solid.{Solid}
 use Rattle.solids.specs.Solids.{Vertex, Tet, Element, element, corners, at, cornersOf}
-use Rattle.solids.specs.Rotations.{isReordering, keepsFaces, isRotation, relisted}
+use Rattle.solids.specs.Rotations.{isReordering, keepsFaces, isRotation}
 use Rattle.solids.specs.Cut.{cut, cutMesh}
 use Rattle.solids.specs.Fit.{proper, fits, fitting}
 use Rattle.solids.specs.Listings.{Relists, as-it-was, by-rotation, Relisting, none, next}

@@ -1,10 +1,10 @@
 -- Tables with their records in another order: accepted exactly if they were, and cut into the same blocks in the new order.
 -- Assumes nothing.
-use mathlib.Core.Path.{_≡_, refl, sym, ap, ap₂, subst, _∙_}
+use mathlib.Core.Path.{_≡_, refl, sym, ap, subst, _∙_}
 use mathlib.Core.Bool.{Bool, true, false, _&&_}
-use mathlib.Core.List.{List, [], _∷_, _++_, map}
+use mathlib.Core.List.{List, [], _∷_}
 use mathlib.Core.Logic.{_⊎_, inl, inr}
-use Prim.Native.Nat.{ℕ, zero, suc, _*_, _≤_, _<_}
+use Prim.Native.Nat.{ℕ, suc, _*_, _≤_, _<_}
 use native.Mathlib.Omega.{arith}
 use lib.Dec.{T, eqb, ltb, eqb→eq, ltb→lt}
 use lib.ListN.{length, getD, drop, length-append, length-drop, length-map, List·getD-map}
@@ -14,11 +14,10 @@ use Rattle.laws.specs.Lent.{laid}
 use Rattle.laws.proofs.TestLaws.{and-left, and-right, true-T}
 use Rattle.laws.proofs.EveryLaws.{every-index, every-implies}
 use Rattle.faults.specs.declared.Fault.the-variants.{Room}
-use Rattle.faults.specs.declared.Finding.{Finding}
 use Rattle.faults.specs.declared.Finding.the-variants.{Clean}
-use Rattle.faults.specs.Refusals.{Verdict, accepted, refused, refuse, refuseIf, andThen}
+use Rattle.faults.specs.Refusals.{accepted, refuse, refuseIf, andThen}
 use Rattle.solids.specs.Solids.{Vertex, Tet, Element}
-use Rattle.solids.specs.Cut.{cut, cutMesh}
+use Rattle.solids.specs.Cut.{cutMesh}
 use Rattle.solids.specs.Fit.{proper, fitting}
 use Rattle.solids.specs.Listings.{isOrder, picked}
 use Rattle.solids.proofs.SetLaws.{among-cases}

@@ -1,8 +1,8 @@
 -- The surface of the cut of an accepted table, neighbours, and whose vertices a tetrahedron has.
 -- Assumes nothing.
-use mathlib.Core.Path.{_≡_, refl, sym, ap, subst, _∙_}
+use mathlib.Core.Path.{_≡_, refl, sym, subst}
 use mathlib.Core.Bool.{Bool, true, false}
-use mathlib.Core.List.{List, [], _∷_, List·Memᴰ}
+use mathlib.Core.List.{List, List·Memᴰ}
 use mathlib.Core.Logic.{_≢_}
 use Prim.Native.Nat.{ℕ, zero, suc, _-_, _≤_, _<_}
 use native.Mathlib.Omega.{arith}
@@ -11,7 +11,7 @@ use lib.ListN.{length}
 use borrow.Author.Tests.{ltb-true, ltb-false}
 use Rattle.laws.specs.Words.{every, among, gather}
 use Rattle.faults.specs.Refusals.{accepted}
-use Rattle.solids.specs.Solids.{Vertex, Face, four, Tri, Tet, Element, ofFace, ofTet, cornersOf, facesOf}
+use Rattle.solids.specs.Solids.{Vertex, Face, four, Tri, Tet, Element, ofFace, ofTet, facesOf}
 use Rattle.solids.specs.Cut.{turned, turns, halves, cutFace, cut, cutMesh}
 use Rattle.solids.specs.Fit.{proper, sameSet, fits, outerFaces}
 use Rattle.solids.specs.Surface.{back, times, owners, SurfaceCut, CutAlike}

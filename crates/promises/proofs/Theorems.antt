@@ -2,8 +2,8 @@
 -- Assumes nothing.
 --   v, n, t     the vertex count, the element count and the element table that an entry is given; es its elements where it is accepted
 --   old, new    the lent output before and after a cut
-use mathlib.Core.Path.{_≡_, refl, sym, ap, subst, _∙_}
-use mathlib.Core.List.{List, [], _∷_, map, List·Memᴰ}
+use mathlib.Core.Path.{_≡_, subst}
+use mathlib.Core.List.{List, [], _++_, map, List·Memᴰ}
 use mathlib.Core.Logic.{_≢_}
 use Prim.Native.Nat.{ℕ, _+_, _*_, _≤_, _<_}
 use lib.Dec.{T}
@@ -14,7 +14,7 @@ use Rattle.laws.specs.Lent.{laid}
 use Rattle.laws.proofs.EveryLaws.{every-implies}
 use Rattle.laws.proofs.TestLaws.{and-left}
 use Rattle.faults.specs.declared.Refusal.{Refusal}
-use Rattle.faults.specs.Refusals.{Verdict, accepted, refused, andThen}
+use Rattle.faults.specs.Refusals.{accepted, refused, andThen}
 use Rattle.solids.specs.Solids.{Place, Vertex, Face, four, Tet, Element, ofFace, ofTet, facesOf}
 use Rattle.solids.specs.Rotations.{isRotation}
 use Rattle.solids.specs.Cut.{cutFace, cut, cutMesh}
@@ -37,7 +37,7 @@ use Rattle.mesh.specs.Judge.{mostElements, judged, JudgeDone}
 use Rattle.mesh.specs.Cutting.{flat, cutOf, CutDone}
 use Rattle.mesh.specs.Signs.{SignDone, isAccepted}
 use Rattle.mesh.proofs.Theorems.{judge-unique, cut-unique, sign-unique, accepted-proper, accepted-surface}
-use Rattle.promises.specs.Tables.{RecordRelisted, TableRelisted, relistedRecord, relistedTable, TableReordered, reordered, blocksInOrder, asTable, tetrahedraIn, SurfaceIsCut}
+use Rattle.promises.specs.Tables.{RecordRelisted, TableRelisted, relistedRecord, relistedTable, TableReordered, reordered, blocksInOrder, asTable, BeginsWith, tetrahedraIn, SurfaceIsCut}
 use Rattle.promises.proofs.AnswerLaws as AnswerLaws
 use Rattle.promises.proofs.RelistedTables as RelistedTables
 use Rattle.promises.proofs.RelistedRecords as RelistedRecords
@@ -164,9 +164,16 @@ reordered-cut-mesh-back v n σ t t′ w old r c new new′ p q =
 
 -- ---- 5. The cut of a cut
 
+-- the table of tetrahedra as TE records is one that begins with them, whatever stands behind it
+pub table-begins : (ts : List (Tet Vertex)) → BeginsWith ts (asTable ts)
+table-begins = CutOfCutTables.table-alone
+
+pub memory-begins : (ts : List (Tet Vertex)) (rest : List ℕ) → BeginsWith ts (asTable ts ++ rest)
+memory-begins = CutOfCutTables.table-begins
+
 -- an accepted table of at most 1,024 tetrahedra: these, given as TE records, are accepted with the same vertex count
 pub again-accepted : (v n : ℕ) (t : List ℕ) (es : List Element) → judged v n t ≡ accepted es → length (cutMesh es) ≤ mostElements
-    → judged v (length (cutMesh es)) (asTable (cutMesh es)) ≡ accepted (map asElement (cutMesh es))
+    → (t′ : List ℕ) → BeginsWith (cutMesh es) t′ → judged v (length (cutMesh es)) t′ ≡ accepted (map asElement (cutMesh es))
 again-accepted = CutOfCutTables.again-accepted
 
 -- and are cut to themselves
@@ -174,27 +181,27 @@ pub again-itself : (v n : ℕ) (t : List ℕ) (es : List Element) → judged v n
 again-itself v n t es e = again-cut es (accepted-proper v n t es e)
 
 -- with whatever room: the same tetrahedra, or the same refusal
-pub again-cut-alike : (v n : ℕ) (t : List ℕ) (es : List Element) → judged v n t ≡ accepted es → length (cutMesh es) ≤ mostElements → (room : ℕ)
-    → cutOf v (length (cutMesh es)) (asTable (cutMesh es)) room ≡ cutOf v n t room
+pub again-cut-alike : (v n : ℕ) (t : List ℕ) (es : List Element) → judged v n t ≡ accepted es → length (cutMesh es) ≤ mostElements
+    → (t′ : List ℕ) → BeginsWith (cutMesh es) t′ → (room : ℕ) → cutOf v (length (cutMesh es)) t′ room ≡ cutOf v n t room
 again-cut-alike = CutOfCutTables.again-alike
 
 -- of the functions: the tetrahedra that `cut_mesh` left in memory, given to it again as TE records with the same memory as before, give the same
 -- answer and the same memory, and `judge_mesh` is done with them
 pub again-cut-mesh : (v n : ℕ) (t old : List ℕ) (c : CutCounts) (new : List ℕ) → CutDone v n t old (answer.Done c) new → c .tetrahedra ≤ mostElements
-    → (s : CutAnswer) (new′ : List ℕ) → CutDone v (c .tetrahedra) (asTable (tetrahedraIn (c .tetrahedra) new)) old s new′
+    → (t′ : List ℕ) → BeginsWith (tetrahedraIn (c .tetrahedra) new) t′ → (s : CutAnswer) (new′ : List ℕ) → CutDone v (c .tetrahedra) t′ old s new′
     → (s ≡ answer.Done c) × (new′ ≡ new)
-again-cut-mesh v n t old c new d few s new′ q =
+again-cut-mesh v n t old c new d few t′ w s new′ q =
     let k = c .tetrahedra in
-    cut-unique v k (asTable (tetrahedraIn k new)) old s (answer.Done c) new′ new q
-    (AnswerLaws.done-answer v k (asTable (tetrahedraIn k new)) old k new (CutOfCutTables.again-done v n t old k new (AnswerLaws.answer-done v n t old k new d) few))
+    cut-unique v k t′ old s (answer.Done c) new′ new q
+    (AnswerLaws.done-answer v k t′ old k new (CutOfCutTables.again-done v n t old k new (AnswerLaws.answer-done v n t old k new d) few t′ w))
 
 pub again-judge-mesh : (v n : ℕ) (t old : List ℕ) (c : CutCounts) (new : List ℕ) → CutDone v n t old (answer.Done c) new → c .tetrahedra ≤ mostElements
-    → (s : JudgeAnswer) → JudgeDone v (c .tetrahedra) (asTable (tetrahedraIn (c .tetrahedra) new)) s → s ≡ judge.Done
-again-judge-mesh v n t old c new d few s q =
+    → (t′ : List ℕ) → BeginsWith (tetrahedraIn (c .tetrahedra) new) t′ → (s : JudgeAnswer) → JudgeDone v (c .tetrahedra) t′ s → s ≡ judge.Done
+again-judge-mesh v n t old c new d few t′ w s q =
     let k = c .tetrahedra in
-    let u = asTable (tetrahedraIn k new) in
-    judge-unique v k u s judge.Done q
-    (AnswerLaws.accepted-judge v k u (firstElements u k) (CutOfCutTables.again-done v n t old k new (AnswerLaws.answer-done v n t old k new d) few .cuts .elements))
+    judge-unique v k t′ s judge.Done q
+    (AnswerLaws.accepted-judge v k t′ (firstElements t′ k)
+    (CutOfCutTables.again-done v n t old k new (AnswerLaws.answer-done v n t old k new d) few t′ w .cuts .elements))
 
 -- ---- 6. Corollaries
 

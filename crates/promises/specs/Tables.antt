@@ -1,7 +1,7 @@
 -- Demand 3 for tables: tables listed in other ways, tetrahedra as a table and in lent memory, and the surface of the tetrahedra.
 use mathlib.Core.Path.{_≡_}
 use mathlib.Core.List.{List, [], _∷_, map}
-use Prim.Native.Nat.{ℕ, zero, suc, _≤_, _<_}
+use Prim.Native.Nat.{ℕ, zero, suc, _*_, _≤_, _<_}
 use lib.Dec.{T}
 use lib.ListN.{length, getD, drop}
 use Rattle.laws.specs.Words.{gather}
@@ -11,7 +11,7 @@ use Rattle.solids.specs.Cut.{cutFace, cut}
 use Rattle.solids.specs.Fit.{outerFaces}
 use Rattle.solids.specs.Surface.{back, times, owners}
 use Rattle.solids.specs.Listings.{Relists, isOrder, picked}
-use Rattle.records.specs.Record.{kindOf, usedOf, spareOf, recordOf, elementOf, recordAt}
+use Rattle.records.specs.Record.{width, kindOf, usedOf, spareOf, recordOf, elementOf, recordAt}
 use Rattle.mesh.specs.Cutting.{tetWidth}
 
 -- ---- relisting
@@ -66,6 +66,11 @@ asRecord t = recordOf 4 (ofTet t) (0 ∷ 0 ∷ 0 ∷ 0 ∷ [])
 -- tetrahedra as a table of element records
 unfoldable pub asTable : List (Tet Vertex) → List ℕ
 asTable ts = gather asRecord ts
+
+-- t begins with the tetrahedra as element records, whatever stands behind them
+pub record BeginsWith (ts : List (Tet Vertex)) (t : List ℕ) : Type 0 where
+  pub long : width * length ts ≤ length t
+  pub each : (k : ℕ) → k < length ts → recordAt t k ≡ asRecord (getD ts k (tet 0 0 0 0))
 
 -- the first k tetrahedra that stand in a memory, four vertex numbers each
 unfoldable pub tetrahedraIn : ℕ → List ℕ → List (Tet Vertex)
