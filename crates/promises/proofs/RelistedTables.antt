@@ -114,6 +114,7 @@ relisting-more : {es xs : List Element} {e x : Element} → Relisting es xs → 
 relisting-more none a = next a none
 relisting-more (next b l) a = next b (relisting-more l a)
 
+-- its elements are the table's, each as it was or relisted
 module _ (n : ℕ) (t t′ : List ℕ) (w : TableRelisted n t t′) where
   element-relisted : (k : ℕ) → k < n → Relists (elementAt t k) (elementAt t′ k)
   unfolding elementAt
@@ -130,6 +131,7 @@ unfolding cutMesh
 relists-cut {e} {x} a p =
     sym (append-nil (cut x)) ∙ relisting-cut (next a none) (and-both (proper e) true p tt) ∙ append-nil (cut e)
 
+-- as many unsound elements, and the same four counts
 unsound-relisted : (table : List ℤ) {es xs : List Element} → Relisting es xs → T (every proper es)
     → count (λ e. not (sound table e)) xs ≡ count (λ e. not (sound table e)) es
 unfolding sound
@@ -179,6 +181,7 @@ module _ (v n : ℕ) where
   whole-verdict t = refl
 
   module _ (t t′ : List ℕ) (w : TableRelisted n t t′) where
+    -- the first record at fault is the same, with the same fault
     finding-alike : (k : ℕ) → k < n → recordFinding v (recordAt t′ k) ≡ recordFinding v (recordAt t k)
     finding-alike k h = finding-relisted (recordAt t k) (recordAt t′ k) (w .each k h) v
 
@@ -198,6 +201,7 @@ module _ (v n : ℕ) where
         ap (λ (k : ℕ). refuse (faultIn (recordFinding v (recordAt t′ (pred k)))) k) bad-record-alike
         ∙ ap (λ (f : Finding). refuse (faultIn f) (badRecord v t n)) (finding-alike (pred (badRecord v t n)) (bad-record-below h))
 
+    -- where no record is at fault, the first pair that does not fit is the same
     module _ (all : T (every proper (firstElements t n))) where
       proper-at : (k : ℕ) → k < n → T (proper (elementAt t k))
       proper-at = first-each t proper n all
