@@ -48,6 +48,11 @@ module _ {A : Type 0} where
   every-index P (x ∷ l) d zero h k = and-left (P x) (every P l) h
   every-index P (x ∷ l) d (suc i) h k = every-index P l d i (and-right (P x) (every P l) h) (le-of-suc-le-suc k)
 
+  -- and back: what holds at each index holds of each member
+  pub every-indexed : (P : A → Bool) (d : A) (l : List A) → ((k : ℕ) → k < length l → T (P (getD l k d))) → T (every P l)
+  every-indexed P d [] h = tt
+  every-indexed P d (x ∷ l) h = and-both (P x) (every P l) (h zero (omega arith)) (every-indexed P d l (λ k b. h (suc k) (omega arith)))
+
   pub every-append : (P : A → Bool) (l m : List A) → T (every P l) → T (every P m) → T (every P (l ++ m))
   every-append P [] m p q = q
   every-append P (x ∷ l) m p q =

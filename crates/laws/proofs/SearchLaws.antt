@@ -1,9 +1,9 @@
 -- A loop that searches from 0 on finds the least; a loop that counts has the number.
 -- Assumes nothing.
 use mathlib.Core.Path.{_≡_, refl}
-use mathlib.Core.Bool.{Bool, true, false, not}
-use Prim.Native.Nat.{ℕ, zero, suc, _+_, _-_, _<_}
-use native.Mathlib.Nat.{add-zero, add-suc, add-sub-of-le, le-of-lt}
+use mathlib.Core.Bool.{Bool, true, false, cond, not}
+use Prim.Native.Nat.{ℕ, zero, suc, _+_, _-_, _≤_, _<_, zero-le}
+use native.Mathlib.Nat.{add-zero, add-suc, add-sub-of-le, le-of-lt, le-refl}
 use native.Mathlib.Numerals.{add-one}
 use native.Mathlib.Omega.{arith}
 use lib.Dec.{eqb}
@@ -64,3 +64,27 @@ module _ (p : ℕ → Bool) where
 
     pub least-all : p k ≡ false
     least-all = not-here (p k) refl
+
+-- where none below n passes, none is found
+pub least-none : (p : ℕ → Bool) (n : ℕ) → ((k : ℕ) → k < n → p k ≡ false) → least p n ≡ 0
+unfolding least
+least-none p zero h = refl
+least-none p (suc n) h = rw (least-none p n (λ k l. h k (omega arith)), h n (omega arith))
+
+-- two tests that agree below n find the same
+pub least-cong : (p q : ℕ → Bool) (n : ℕ) → ((k : ℕ) → k < n → p k ≡ q k) → least p n ≡ least q n
+unfolding least
+least-cong p q zero h = refl
+least-cong p q (suc n) h = rw (least-cong p q n (λ k l. h k (omega arith)), h n (omega arith))
+
+-- what is found is a number below n, or 0
+pub least-most : (p : ℕ → Bool) (n : ℕ) → least p n ≤ n
+unfolding least
+least-most p zero = zero-le
+least-most p (suc n) = go (p n) (eqb (least p n) 0) (least-most p n)
+  where
+    go : (a b : Bool) → least p n ≤ n → cond b (cond a (suc n) 0) (least p n) ≤ suc n
+    go true true h = le-refl (suc n)
+    go false true h = zero-le
+    go true false h = omega arith
+    go false false h = omega arith

@@ -90,27 +90,27 @@ module _ (v n : ℕ) (t : List ℕ) (es : List Element) (e : judged v n t ≡ ac
   unfolding j
   no-bad-element = let h = ltb-false 0 j (p₅ .no) in omega arith
 
-  pub few-vertices : v ≤ mostVertices
-  few-vertices = ltb-false mostVertices v (p₁ .no)
+  pub accepted-vertices : v ≤ mostVertices
+  accepted-vertices = ltb-false mostVertices v (p₁ .no)
 
-  pub few : n ≤ mostElements
-  few = ltb-false mostElements n (p₂ .no)
+  pub accepted-count : n ≤ mostElements
+  accepted-count = ltb-false mostElements n (p₂ .no)
 
-  pub long : width * n ≤ length t
-  long = ltb-false (length t) (width * n) (p₃ .no)
+  pub accepted-long : width * n ≤ length t
+  accepted-long = ltb-false (length t) (width * n) (p₃ .no)
 
-  pub clean : (k : ℕ) → k < n → recordFinding v (recordAt t k) ≡ Clean
-  clean = record-clean v t n no-bad-record
+  pub accepted-clean : (k : ℕ) → k < n → recordFinding v (recordAt t k) ≡ Clean
+  accepted-clean = record-clean v t n no-bad-record
 
   pub accepted-elements : es ≡ firstElements t n
   unfolding last
   accepted-elements = let q = p₅ .rest in cc
 
   pub accepted-few : length es ≤ 1024
-  accepted-few = rw (accepted-elements, first-length t n) few
+  accepted-few = rw (accepted-elements, first-length t n) accepted-count
 
   pub accepted-proper : T (every proper es)
-  accepted-proper = rw accepted-elements (first-proper t n (records-whole v t n no-bad-record few long))
+  accepted-proper = rw accepted-elements (first-proper t n (records-whole v t n no-bad-record accepted-count accepted-long))
 
   pub accepted-fitting : T (fitting es)
   accepted-fitting = rw accepted-elements (none-bad-fitting t n no-bad-element)
@@ -170,12 +170,12 @@ module _ (v n : ℕ) (t : List ℕ) (table : List ℤ) (counts : List ℕ) (e : 
 
   signed : SignAccepted v n t table
   signed = record {
-    vertices = few-vertices v n t (q₁ .value) (q₁ .was);
-    elements = few v n t (q₁ .value) (q₁ .was);
+    vertices = accepted-vertices v n t (q₁ .value) (q₁ .was);
+    elements = accepted-count v n t (q₁ .value) (q₁ .was);
     vertexRoom = ltb-false (length table) (vertexWidth * v) (q₂ .no);
-    elementRoom = long v n t (q₁ .value) (q₁ .was);
+    elementRoom = accepted-long v n t (q₁ .value) (q₁ .was);
     ranged = point-ranged;
-    clean = clean v n t (q₁ .value) (q₁ .was);
+    clean = accepted-clean v n t (q₁ .value) (q₁ .was);
   }
 
 pub sign-accepted : (v n : ℕ) (t : List ℕ) (table : List ℤ) → acceptedTables v n t table ≡ true → SignAccepted v n t table

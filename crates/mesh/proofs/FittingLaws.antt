@@ -1,7 +1,7 @@
 -- Where no element of a table has a misfit, every two of its elements fit.
 -- Assumes nothing.
 use mathlib.Core.Path.{_≡_}
-use mathlib.Core.Bool.{Bool, true, not}
+use mathlib.Core.Bool.{true, not}
 use mathlib.Core.List.{List, [], _∷_, _++_}
 use Prim.Native.Nat.{ℕ, zero, suc, _≤_, _<_}
 use native.Mathlib.Omega.{arith}
@@ -15,6 +15,7 @@ use Rattle.laws.proofs.EveryLaws.{every-append}
 use Rattle.solids.specs.Solids.{Element}
 use Rattle.solids.specs.Fit.{fits, fitting}
 use Rattle.records.specs.Record.{elementAt, firstElements}
+use Rattle.records.proofs.Theorems.{first-all}
 use Rattle.mesh.specs.Judge.{pairFits, misfit, badElement}
 
 -- one element more, which all fit
@@ -28,14 +29,6 @@ fitting-more (e ∷ es) x f h =
     (fitting-more es x (and-right (every (fits e) es) (fitting es) f) (and-right (fits e x) (every (λ d. fits d x) es) h))
 
 module _ (t : List ℕ) where
-  -- what each of the first n elements passes, all pass
-  every-first : (p : Element → Bool) (n : ℕ) → ((k : ℕ) → k < n → T (p (elementAt t k))) → T (every p (firstElements t n))
-  unfolding firstElements
-  every-first p zero h = tt
-  every-first p (suc n) h =
-      every-append p (firstElements t n) (elementAt t n ∷ []) (every-first p n (λ k l. h k (omega arith)))
-      (and-both (p (elementAt t n)) true (h n (omega arith)) tt)
-
   -- no element below n has a misfit: each pair below n fits
   pub none-bad : (n : ℕ) → badElement t n ≡ 0 → (i j : ℕ) → i < j → j < n → T (pairFits t i j)
   unfolding badElement misfit
@@ -49,7 +42,7 @@ module _ (t : List ℕ) where
   fitting-first zero h = tt
   fitting-first (suc n) h =
       fitting-more (firstElements t n) (elementAt t n) (fitting-first n (λ i j k l. h i j k (omega arith)))
-      (every-first (λ e. fits e (elementAt t n)) n (λ i k. h i n k (omega arith)))
+      (first-all t (λ e. fits e (elementAt t n)) n (λ i k. h i n k (omega arith)))
 
   -- every two of the first n elements fit
   pub none-bad-fitting : (n : ℕ) → badElement t n ≡ 0 → T (fitting (firstElements t n))

@@ -16,6 +16,7 @@ pub mod RecordCutLaws
 pub mod StoreLaws
 pub mod MeshCutLaws
 pub mod AcceptedLaws
+pub mod AcceptanceLaws
 pub mod Theorems
 pub mod SiteLaws
 pub mod VolumeLaws

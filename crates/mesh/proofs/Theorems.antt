@@ -24,8 +24,10 @@ use Rattle.mesh.specs.declared.SignAnswer.{SignAnswer}
 use Rattle.mesh.specs.declared.SignAnswer.the-variants as sign
 use Rattle.mesh.specs.Signs.{signVerdict, SignDone}
 use Rattle.mesh.specs.Judge.{judged, judgeVerdict, JudgeDone}
+use Rattle.mesh.specs.Acceptance.{Acceptable}
 use Rattle.mesh.specs.Cutting.{cutVerdict, CutDone}
 use Rattle.mesh.proofs.AcceptedLaws as AcceptedLaws
+use Rattle.mesh.proofs.AcceptanceLaws as AcceptanceLaws
 
 -- ---- uniqueness: two answers, and two outputs, that a contract allows are equal
 
@@ -80,6 +82,13 @@ accepted-proper = AcceptedLaws.accepted-proper
 
 pub accepted-fitting : (v n : ℕ) (t : List ℕ) (es : List Element) → judged v n t ≡ accepted es → T (fitting es)
 accepted-fitting = AcceptedLaws.accepted-fitting
+
+-- a table is accepted exactly if it is what the page asks
+pub accepted-acceptable : (v n : ℕ) (t : List ℕ) (es : List Element) → judged v n t ≡ accepted es → Acceptable v n t
+accepted-acceptable = AcceptanceLaws.accepted-acceptable
+
+pub acceptable-accepted : (v n : ℕ) (t : List ℕ) → Acceptable v n t → judged v n t ≡ accepted (firstElements t n)
+acceptable-accepted = AcceptanceLaws.acceptable-accepted
 
 -- at most 6,144 tetrahedra
 pub accepted-tetrahedra : (v n : ℕ) (t : List ℕ) (es : List Element) → judged v n t ≡ accepted es → length (cutMesh es) ≤ 6144

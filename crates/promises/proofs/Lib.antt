@@ -1,4 +1,13 @@
--- The promises that reach across the rooms.
+-- What is proved of several entries together; Theorems states it.
+pub mod AnswerLaws
+pub mod RelistedTables
+pub mod RelistedRecords
+pub mod ReorderedTables
+pub mod TetrahedronRecord
+pub mod CutOfCutTables
+pub mod SurfaceOfTables
+pub mod OneCut
+pub mod Theorems
 pub mod ReadBackNumbers
 pub mod ReadBackLines
 pub mod ReadBackFile

@@ -1,2 +1,3 @@
--- The words of the promises that reach across the rooms.
+-- The words in which the promises of several entries are stated.
+pub mod Tables
 pub mod ReadBack

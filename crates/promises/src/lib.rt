@@ -1,1 +1,1 @@
-// What is promised across the rooms: of tables, texts and cuts together. This room has no function: its promises stand in specs/ and proofs/.
+// What is promised of several entries together. There is no code here: specs/ says it and proofs/ shows it.

@@ -1,15 +1,16 @@
 -- Laws of a record and of a table of records: the parts that the code reads are the fields; a record without a fault is whole, and a whole
 -- record holds a proper element: as many corners as its solid has, no vertex twice. Assumes nothing.
-use mathlib.Core.Path.{_≡_, refl, sym, ap, _∙_, subst}
+use mathlib.Core.Path.{_≡_, refl, sym, ap, ap₂, _∙_, subst}
 use mathlib.Core.Bool.{Bool, true, false, cond, not, _&&_, _||_}
-use mathlib.Core.List.{List, [], _∷_, _++_}
+use mathlib.Core.List.{List, [], _∷_, _++_, List·Memᴰ, List·Memᴰ·append-cases, List·Memᴰ·eq-of-singleton, List·Memᴰ·not-nil}
+use mathlib.Core.Logic.{_⊎_, inl, inr}
 use Prim.Native.Nat.{ℕ, zero, suc, _+_, _-_, _*_, _/_, _≤_, _<_, min}
 use native.Mathlib.Nat.{not-suc-le-zero}
 use native.Mathlib.Numerals.{add-one, one-add}
 use native.Mathlib.Omega.{arith}
 use lib.Dec.{T, eqb, ltb, leb, eqb→eq, ltb→lt, leb→le, lt→ltb, le→leb}
 use lib.ListN.{length, getD, take, drop, length-append, length-take, length-drop, take-append-drop, drop-of-length-le, List·getD-eq-default, List·getD-append}
-use lib.Seq.{take-all, drop-drop, drop-cons, drop-length, getD-take, getD-drop, getD-at, length-take-le}
+use lib.Seq.{take-all, drop-drop, drop-cons, drop-length, getD-take, getD-drop, getD-at, take-at, drop-at, length-take-le, ext-getD}
 use borrow.Author.Tests.{eq-eqb, ne-eqb, eqb-true, eqb-false, ltb-false, le-ltb, not-false}
 use Rattle.laws.specs.Words.{every, some, distinct}
 use Rattle.laws.proofs.TestLaws.{T-true, true-T, and-left, and-right, and-both}
@@ -21,7 +22,7 @@ use Rattle.faults.specs.declared.Finding.{Finding}
 use Rattle.faults.specs.declared.Finding.the-variants.{Clean, Found}
 use Rattle.solids.specs.Solids.{Element, corners, at}
 use Rattle.solids.specs.Fit.{proper}
-use Rattle.records.specs.Record.{width, kindOf, numbersOf, usedOf, spareOf, cornerAt, isKind, solidOf, elementOf, strayVertex, notZero, recordFinding, recordAt, elementAt, firstElements}
+use Rattle.records.specs.Record.{width, kindOf, numbersOf, usedOf, spareOf, recordOf, cornerAt, isKind, solidOf, elementOf, strayVertex, notZero, recordFinding, recordAt, elementAt, firstElements}
 use Rattle.records.specs.Loops.{isNumber, Faultless, Whole, WholeTable}
 
 -- the four kinds, one by one
@@ -133,6 +134,28 @@ module _ (r : List ℕ) (wide : length r ≡ width) where
   record-parts =
       drop-cons r 0 0 (omega arith)
       ∙ ap (λ (l : List ℕ). kindOf r ∷ l) (sym all-numbers ∙ sym (take-append-drop (kindOf r) (numbersOf r)))
+
+-- ---- a record made of its parts
+
+module _ (k : ℕ) (used spare : List ℕ) (many : length used ≡ k) (eight : length used + length spare ≡ 8) where
+  made-numbers : numbersOf (recordOf k used spare) ≡ used ++ spare
+  unfolding numbersOf
+  made-numbers = take-all 8 (used ++ spare) (let e = length-append used spare in omega arith)
+
+  pub made-length : length (recordOf k used spare) ≡ width
+  made-length = let e = length-append used spare in omega arith
+
+  pub made-kind : kindOf (recordOf k used spare) ≡ k
+  unfolding kindOf
+  made-kind = refl
+
+  pub made-used : usedOf (recordOf k used spare) ≡ used
+  unfolding usedOf
+  made-used = ap₂ {C = List ℕ} take made-kind made-numbers ∙ take-at used spare k many
+
+  pub made-spare : spareOf (recordOf k used spare) ≡ spare
+  unfolding spareOf
+  made-spare = ap₂ {C = List ℕ} drop made-kind made-numbers ∙ drop-at used spare k many
 
 -- ---- what a record is found to be
 
@@ -287,15 +310,38 @@ first-at t (suc n) k d h = by (eqb k n) refl (first-at t n k d)
         let i : k < n = omega arith in
         List·getD-append (firstElements t n) (elementAt t n ∷ []) d k (rw l i) ∙ rest i
 
--- elements that are proper one by one are all proper
-all-proper : (t : List ℕ) (n : ℕ) → ((k : ℕ) → k < n → T (proper (elementAt t k))) → T (every proper (firstElements t n))
+-- what each of the first n elements passes, all pass
+pub first-all : (t : List ℕ) (p : Element → Bool) (n : ℕ) → ((k : ℕ) → k < n → T (p (elementAt t k))) → T (every p (firstElements t n))
 unfolding firstElements
-all-proper t zero h = tt
-all-proper t (suc n) h =
-    every-append proper (firstElements t n) (elementAt t n ∷ []) (all-proper t n (λ k l. h k (omega arith)))
-    (and-both (proper (elementAt t n)) true (h n (omega arith)) tt)
+first-all t p zero h = tt
+first-all t p (suc n) h =
+    every-append p (firstElements t n) (elementAt t n ∷ []) (first-all t p n (λ k l. h k (omega arith)))
+    (and-both (p (elementAt t n)) true (h n (omega arith)) tt)
+
+-- and what all pass, each passes
+pub first-each : (t : List ℕ) (p : Element → Bool) (n : ℕ) → T (every p (firstElements t n)) → (k : ℕ) → k < n → T (p (elementAt t k))
+first-each t p n h k l =
+    subst (λ (e : Element). T (p e)) (first-at t n k (elementAt t k) l)
+    (every-index p (firstElements t n) (elementAt t k) k h (subst (λ (m : ℕ). k < m) (sym (first-length t n)) l))
+
+-- the first n elements are these, if each is
+pub first-are : (t : List ℕ) (n : ℕ) (d : Element) (l : List Element) → length l ≡ n → ((k : ℕ) → k < n → elementAt t k ≡ getD l k d) → firstElements t n ≡ l
+first-are t n d l e h =
+    ext-getD d (firstElements t n) l (first-length t n ∙ sym e)
+    (λ k b. let c : k < n = rw (first-length t n) at b in first-at t n k d c ∙ h k c)
+
+-- one of the first n elements stands at an index
+pub first-member : (t : List ℕ) (n : ℕ) (e : Element) → List·Memᴰ e (firstElements t n) → (k : ℕ) × (k < n) × (e ≡ elementAt t k)
+unfolding firstElements
+first-member t zero e m = absurd (List·Memᴰ·not-nil m)
+first-member t (suc n) e m = go (List·Memᴰ·append-cases (firstElements t n) m) (first-member t n e)
+  where
+    go : List·Memᴰ e (firstElements t n) ⊎ List·Memᴰ e (elementAt t n ∷ []) → (List·Memᴰ e (firstElements t n) → (k : ℕ) × (k < n) × (e ≡ elementAt t k))
+        → (k : ℕ) × (k < suc n) × (e ≡ elementAt t k)
+    go (inl a) rest = let r = rest a in (r .0, (let b = r .1 in omega arith), r .2)
+    go (inr a) rest = (n, omega arith, List·Memᴰ·eq-of-singleton a)
 
 -- the elements of a whole table are proper
 pub first-proper : (t : List ℕ) (n : ℕ) → WholeTable t n → T (every proper (firstElements t n))
 unfolding elementAt
-first-proper t n w = all-proper t n (λ k h. whole-proper (recordAt t k) (w .whole k h))
+first-proper t n w = first-all t proper n (λ k h. whole-proper (recordAt t k) (w .whole k h))

@@ -1,20 +1,22 @@
 -- What is proved of the element record, in the words of specs/ alone. A reader starts here.
 -- Assumes nothing.
 use mathlib.Core.Path.{_≡_, sym, _∙_}
-use mathlib.Core.List.{List, _∷_, _++_}
-use Prim.Native.Nat.{ℕ, _*_, _≤_, _<_}
-use lib.Dec.{T}
+use mathlib.Core.Bool.{Bool}
+use mathlib.Core.List.{List, _∷_, _++_, List·Memᴰ}
+use Prim.Native.Nat.{ℕ, _+_, _*_, _≤_, _<_}
+use lib.Dec.{T, eqb}
 use lib.ListN.{length, getD}
-use Rattle.laws.specs.Words.{every}
+use Rattle.laws.specs.Words.{every, gather}
 use Rattle.faults.specs.declared.Finding.{Finding}
 use Rattle.faults.specs.declared.Finding.the-variants.{Clean}
 use Rattle.solids.specs.declared.Solid.{Solid}
 use Rattle.solids.specs.declared.Vertex.{Vertex}
 use Rattle.solids.specs.Solids.{Element, cornersOf, at}
 use Rattle.solids.specs.Fit.{proper}
-use Rattle.records.specs.Record.{width, kindOf, usedOf, spareOf, cornerAt, solidOf, elementOf, recordFinding, recordAt, elementAt, firstElements, recordCount}
+use Rattle.records.specs.Record.{width, kindOf, usedOf, spareOf, recordOf, cornerAt, solidOf, elementOf, recordFinding, recordAt, elementAt, firstElements, recordCount}
 use Rattle.records.specs.Loops.{isNumber, Faultless, Whole, WholeTable}
 use Rattle.records.proofs.RecordLaws as L
+use Rattle.records.proofs.GatheredLaws as G
 
 -- ---- two answers that a contract allows are equal
 
@@ -73,6 +75,19 @@ corner-of-element = L.corner-used
 pub record-parts : (r : List ℕ) → length r ≡ width → r ≡ kindOf r ∷ (usedOf r ++ spareOf r)
 record-parts = L.record-parts
 
+-- a record made of a kind, as many vertex numbers and the unused ones has these parts
+pub made-length : (k : ℕ) (used spare : List ℕ) → length used ≡ k → length used + length spare ≡ 8 → length (recordOf k used spare) ≡ width
+made-length = L.made-length
+
+pub made-kind : (k : ℕ) (used spare : List ℕ) → length used ≡ k → length used + length spare ≡ 8 → kindOf (recordOf k used spare) ≡ k
+made-kind = L.made-kind
+
+pub made-used : (k : ℕ) (used spare : List ℕ) → length used ≡ k → length used + length spare ≡ 8 → usedOf (recordOf k used spare) ≡ used
+made-used = L.made-used
+
+pub made-spare : (k : ℕ) (used spare : List ℕ) → length used ≡ k → length used + length spare ≡ 8 → spareOf (recordOf k used spare) ≡ spare
+made-spare = L.made-spare
+
 -- ---- a table
 
 pub record-length : (t : List ℕ) (n k : ℕ) → width * n ≤ length t → k < n → length (recordAt t k) ≡ width
@@ -85,5 +100,26 @@ first-length = L.first-length
 pub first-at : (t : List ℕ) (n k : ℕ) (d : Element) → k < n → getD (firstElements t n) k d ≡ elementAt t k
 first-at = L.first-at
 
+-- what each of them passes, all pass, and back; they are these, if each is; and one of them stands at an index
+pub first-all : (t : List ℕ) (p : Element → Bool) (n : ℕ) → ((k : ℕ) → k < n → T (p (elementAt t k))) → T (every p (firstElements t n))
+first-all = L.first-all
+
+pub first-each : (t : List ℕ) (p : Element → Bool) (n : ℕ) → T (every p (firstElements t n)) → (k : ℕ) → k < n → T (p (elementAt t k))
+first-each = L.first-each
+
+pub first-are : (t : List ℕ) (n : ℕ) (d : Element) (l : List Element) → length l ≡ n → ((k : ℕ) → k < n → elementAt t k ≡ getD l k d) → firstElements t n ≡ l
+first-are = L.first-are
+
+pub first-member : (t : List ℕ) (n : ℕ) (e : Element) → List·Memᴰ e (firstElements t n) → (k : ℕ) × (k < n) × (e ≡ elementAt t k)
+first-member = L.first-member
+
 pub first-proper : (t : List ℕ) (n : ℕ) → WholeTable t n → T (every proper (firstElements t n))
 first-proper = L.first-proper
+
+-- records that f makes, one after the other: their numbers, and the record at an index, whatever stands behind them
+pub gathered-length : {A : Type 0} (f : A → List ℕ) (l : List A) → T (every (λ x. eqb (length (f x)) width) l) → length (gather f l) ≡ width * length l
+gathered-length = G.gathered-length
+
+pub gathered-at : {A : Type 0} (f : A → List ℕ) (d : A) (l : List A) (rest : List ℕ) (k : ℕ) → T (every (λ x. eqb (length (f x)) width) l) → k < length l
+    → recordAt (gather f l ++ rest) k ≡ f (getD l k d)
+gathered-at = G.gathered-at

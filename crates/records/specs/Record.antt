@@ -33,6 +33,10 @@ usedOf r = take (kindOf r) (numbersOf r)
 unfoldable pub spareOf : List ℕ → List ℕ
 spareOf r = drop (kindOf r) (numbersOf r)
 
+-- the record of a kind, the vertex numbers of its corners and the unused ones
+abbrev pub recordOf : ℕ → List ℕ → List ℕ → List ℕ
+recordOf k used spare = k ∷ (used ++ spare)
+
 -- the vertex number at a place, 0 where there is none
 unfoldable pub cornerAt : List ℕ → Place → ℕ
 cornerAt r p = at (numbersOf r) p

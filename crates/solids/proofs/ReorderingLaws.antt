@@ -18,7 +18,7 @@ use Rattle.solids.specs.Cut.{cut, cutMesh}
 use Rattle.solids.specs.Fit.{proper, fits, fitting}
 use Rattle.solids.specs.Listings.{isOrder, picked}
 use Rattle.solids.proofs.SideLaws.{bool-iff}
-use Rattle.solids.proofs.SetLaws.{Sub, among-first, among-later, among-cases, not-in, distinct-both, distinct-le}
+use Rattle.solids.proofs.SetLaws.{Sub, among-first, among-later, among-cases, not-in, distinct-both, distinct-le, gathered-same}
 use Rattle.solids.proofs.FitLaws.{fits-sym}
 
 -- ---- the numbers from k on, n of them
@@ -67,6 +67,11 @@ listed d [] = refl
 listed {A} d (x ∷ l) =
     ap {B = List A} (λ r. x ∷ r)
     (ap (map (λ i. getD (x ∷ l) i d)) (run-suc 0 (length l)) ∙ map-map (λ i. getD (x ∷ l) i d) suc (run 0 (length l)) ∙ listed d l)
+
+-- what is gathered of members that are changed one by one
+gather-map : {A B C : Type 0} (f : B → List C) (g : A → B) (l : List A) → gather f (map g l) ≡ gather (λ x. f (g x)) l
+gather-map f g [] = refl
+gather-map {C} f g (x ∷ l) = ap (λ (r : List C). f (g x) ++ r) (gather-map f g l)
 
 -- ---- two lists of the same different numbers
 
@@ -157,6 +162,9 @@ module _ (n : ℕ) (σ : List ℕ) (o : T (isOrder n σ)) where
               by (inl x) = subst (λ (w : ℕ). T (among w (run 0 n))) (sym x) m
               by (inr y) = in-run j y
 
+  pub order-names : (i : ℕ) → i < n → T (among i σ)
+  order-names i h = in-order i (run-has 0 n i (omega arith) (omega arith))
+
 -- ---- THE REORDERED MESH
 
 module _ (d : Element) (es : List Element) (σ : List ℕ) (o : T (isOrder (length es) σ)) where
@@ -176,6 +184,15 @@ module _ (d : Element) (es : List Element) (σ : List ℕ) (o : T (isOrder (leng
       (fitting-moved (λ i. getD es i d) σ τ (run-distinct 0 (length es)) (in-order (length es) σ o) (subst T (sym reordered-proper) p) h))
       (λ h. fitting-moved (λ i. getD es i d) τ σ (order-distinct (length es) σ o) (in-run (length es) σ o)
       (subst (λ (l : List Element). T (every proper l)) (sym (listed d es)) p) (subst (λ (l : List Element). T (fitting l)) (sym (listed d es)) h))
+
+  -- as many tetrahedra
+  pub reordered-many : length (cutMesh (picked d σ es)) ≡ length (cutMesh es)
+  unfolding cutMesh
+  reordered-many =
+      ap length (gather-map cut (λ i. getD es i d) σ)
+      ∙ gathered-same (λ i. cut (getD es i d)) σ τ (order-distinct (length es) σ o) (run-distinct 0 (length es)) (in-run (length es) σ o) (in-order (length es) σ o)
+      ∙ ap length (sym (gather-map cut (λ i. getD es i d) τ))
+      ∙ ap (λ (l : List Element). length (gather cut l)) (listed d es)
 
 -- the blocks at the same indices
 cut-at : (d : Element) (l : List Element) (i : ℕ) → i < length l → cut (getD l i d) ≡ getD (map cut l) i []

@@ -1,16 +1,16 @@
 -- Lists of numbers, by what is among them: a list inside another, the same numbers in whatever order, and that lists of different numbers with the
--- same members are equally long.
+-- same members are equally long, and as much is gathered of them.
 -- Assumes nothing.
 use mathlib.Core.Path.{_≡_, refl, sym, _∙_, ap, subst}
 use mathlib.Core.Bool.{Bool, true, false, cond, not}
-use mathlib.Core.List.{List, [], _∷_}
+use mathlib.Core.List.{List, [], _∷_, _++_}
 use mathlib.Core.Logic.{_⊎_, inl, inr}
-use Prim.Native.Nat.{ℕ, suc, _≤_, _<_}
+use Prim.Native.Nat.{ℕ, _+_, _≤_}
 use native.Mathlib.Omega.{arith}
 use lib.Dec.{eqb, T, eqb→eq, eqb-refl}
-use lib.ListN.{length}
-use borrow.Author.Tests.{eqb-false, eq-eqb}
-use Rattle.laws.specs.Words.{every, among, distinct, keep}
+use lib.ListN.{length, length-append}
+use borrow.Author.Tests.{eqb-true, eqb-false, eq-eqb}
+use Rattle.laws.specs.Words.{every, among, distinct, keep, gather}
 use Rattle.laws.proofs.TestLaws.{and-left, and-right, and-both, or-cases, or-left, or-right, true-T, distinct-cons}
 use Rattle.laws.proofs.EveryLaws.{among-every}
 use Rattle.solids.specs.Fit.{sameSet}
@@ -98,35 +98,54 @@ distinct-keep P (w ∷ l) d = go (P w) (distinct-keep P l (distinct-cons w l d .
 abbrev other : ℕ → ℕ → Bool
 other x w = not (eqb w x)
 
-keep-le : (P : ℕ → Bool) (l : List ℕ) → length (keep P l) ≤ length l
-keep-le P [] = omega arith
-keep-le P (w ∷ l) = go (P w) (keep-le P l)
-  where
-    go : (b : Bool) → length (keep P l) ≤ length l → length (cond b (w ∷ keep P l) (keep P l)) ≤ suc (length l)
-    go true h = omega arith
-    go false h = omega arith
+-- what is gathered of numbers
+module _ {A : Type 0} (g : ℕ → List A) where
+  keep-le : (P : ℕ → Bool) (l : List ℕ) → length (gather g (keep P l)) ≤ length (gather g l)
+  keep-le P [] = omega arith
+  keep-le P (w ∷ l) = go (P w) (keep-le P l)
+    where
+      go : (b : Bool) → length (gather g (keep P l)) ≤ length (gather g l)
+          → length (gather g (cond b (w ∷ keep P l) (keep P l))) ≤ length (g w ++ gather g l)
+      go true h = simp length-append (omega arith)
+      go false h = simp length-append (omega arith)
 
-without-lt : (x : ℕ) (l : List ℕ) → T (among x l) → length (keep (other x) l) < length l
-without-lt x [] h = absurd h
-without-lt x (w ∷ l) h = go (eqb w x) refl (among-cases x w l h) (without-lt x l)
-  where
-    go : (b : Bool) → eqb w x ≡ b → (x ≡ w) ⊎ T (among x l) → (T (among x l) → length (keep (other x) l) < length l)
-        → length (cond (not b) (w ∷ keep (other x) l) (keep (other x) l)) < suc (length l)
-    go true e c ih = let k = keep-le (other x) l in omega arith
-    go false e (inl c) ih = absurd (eqb-false w x e (sym c))
-    go false e (inr c) ih = let k = ih c in omega arith
+  without-le : (x : ℕ) (l : List ℕ) → T (among x l) → length (g x) + length (gather g (keep (other x) l)) ≤ length (gather g l)
+  without-le x [] h = absurd h
+  without-le x (w ∷ l) h = go (eqb w x) refl (among-cases x w l h) (without-le x l)
+    where
+      go : (b : Bool) → eqb w x ≡ b → (x ≡ w) ⊎ T (among x l)
+          → (T (among x l) → length (g x) + length (gather g (keep (other x) l)) ≤ length (gather g l))
+          → length (g x) + length (gather g (cond (not b) (w ∷ keep (other x) l) (keep (other x) l))) ≤ length (g w ++ gather g l)
+      go true e c ih =
+          let k = keep-le (other x) l in
+          let p : length (g w) ≡ length (g x) = ap (λ (y : ℕ). length (g y)) (eqb-true w x e) in
+          simp length-append (omega arith)
+      go false e (inl c) ih = absurd (eqb-false w x e (sym c))
+      go false e (inr c) ih = let k = ih c in simp length-append (omega arith)
+
+  -- of different numbers, all of them among m, no more is gathered than of m
+  pub gathered-le : (l m : List ℕ) → T (distinct l) → Sub l m → length (gather g l) ≤ length (gather g m)
+  gathered-le [] m d s = omega arith
+  gathered-le (x ∷ l) m d s =
+      let k = gathered-le l (keep (other x) m) (distinct-cons x l d .1)
+      (λ v h. among-keep (other x) m v (s v (among-later v x l h)) (away v h)) in
+      let n = without-le x m (s x (among-first x l)) in
+      simp length-append (omega arith)
+    where
+      away : (v : ℕ) → T (among v l) → T (other x v)
+      away v h = not-T (eqb v x) (λ e. not-in x l d (subst (λ (w : ℕ). T (among w l)) (eqb→eq v x e) h))
+
+  -- and as much where each number of the one is among the other
+  pub gathered-same : (l m : List ℕ) → T (distinct l) → T (distinct m) → Sub l m → Sub m l → length (gather g l) ≡ length (gather g m)
+  gathered-same l m d e s r = let x = gathered-le l m d s in let y = gathered-le m l e r in omega arith
+
+gather-self : (l : List ℕ) → gather (λ v. v ∷ []) l ≡ l
+gather-self [] = refl
+gather-self (v ∷ l) = ap (λ (m : List ℕ). v ∷ m) (gather-self l)
 
 -- different numbers, all of them among m, are no more than m has
 pub distinct-le : (l m : List ℕ) → T (distinct l) → Sub l m → length l ≤ length m
-distinct-le [] m d s = omega arith
-distinct-le (x ∷ l) m d s =
-    let k = distinct-le l (keep (other x) m) (distinct-cons x l d .1)
-    (λ v h. among-keep (other x) m v (s v (among-later v x l h)) (away v h)) in
-    let n = without-lt x m (s x (among-first x l)) in
-    omega arith
-  where
-    away : (v : ℕ) → T (among v l) → T (other x v)
-    away v h = not-T (eqb v x) (λ e. not-in x l d (subst (λ (w : ℕ). T (among w l)) (eqb→eq v x e) h))
+distinct-le l m d s = rw (gather-self l, gather-self m) at (gathered-le (λ v. v ∷ []) l m d s)
 
 pub same-length : (l m : List ℕ) → T (distinct l) → T (distinct m) → Sub l m → Sub m l → length l ≡ length m
 same-length l m d e s r = let x = distinct-le l m d s in let y = distinct-le m l e r in omega arith

@@ -146,6 +146,10 @@ relisting-cut = RelistingLaws.relisting-cut
 
 -- ---- the order of the elements
 
+-- a reordering names every number below n
+pub order-names : (n : ℕ) (σ : List ℕ) → T (isOrder n σ) → (i : ℕ) → i < n → T (among i σ)
+order-names = ReorderingLaws.order-names
+
 -- which of two elements comes first does not matter to whether they fit
 pub fits-sym : (e x : Element) → T (proper e) → T (proper x) → fits e x ≡ fits x e
 fits-sym = FitLaws.fits-sym
@@ -156,6 +160,9 @@ reordered-proper = ReorderingLaws.reordered-proper
 
 pub reordered-fitting : (d : Element) (es : List Element) (σ : List ℕ) → T (isOrder (length es) σ) → T (every proper es) → fitting (picked d σ es) ≡ fitting es
 reordered-fitting = ReorderingLaws.reordered-fitting
+
+pub reordered-many : (d : Element) (es : List Element) (σ : List ℕ) → T (isOrder (length es) σ) → length (cutMesh (picked d σ es)) ≡ length (cutMesh es)
+reordered-many = ReorderingLaws.reordered-many
 
 pub reordered-cut : (d : Element) (es : List Element) (σ : List ℕ) → T (isOrder (length es) σ)
     → cutMesh (picked d σ es) ≡ gather (λ b. b) (picked [] σ (map cut es))
