@@ -1,6 +1,6 @@
 -- A table is accepted exactly if it is what the page asks: from each record and each pair to the judgement.
 -- Assumes nothing.
-use mathlib.Core.Path.{_≡_, refl, sym, ap, subst}
+use mathlib.Core.Path.{_≡_, refl, sym, ap, _∙_, subst}
 use mathlib.Core.Bool.{Bool, true, false, not}
 use mathlib.Core.List.{List, [], _∷_, _++_}
 use Prim.Native.Nat.{ℕ, zero, suc, _*_, _≤_, _<_}
@@ -20,7 +20,7 @@ use Rattle.records.specs.Record.{width, recordFinding, recordCount, recordAt, e
 use Rattle.mesh.specs.Judge.{mostElements, isFault, badRecord, pairFits, misfit, badElement, judged}
 use Rattle.mesh.specs.Acceptance.{Acceptable}
 use Rattle.records.proofs.Theorems.{clean-whole, first-each, first-proper}
-use Rattle.mesh.proofs.VerdictLaws.{all-good}
+use Rattle.mesh.proofs.VerdictLaws.{all-clean, all-fit}
 use Rattle.mesh.proofs.AcceptedLaws.{accepted-elements, accepted-vertices, accepted-count, accepted-long, accepted-clean, accepted-fitting}
 
 -- the elements before one more fit, and all of them fit it
@@ -66,7 +66,8 @@ none-at-fault limit t n h = least-none (λ k. isFault (recordFinding limit (reco
 pub acceptable-accepted : (v n : ℕ) (t : List ℕ) → Acceptable v n t → judged v n t ≡ accepted (firstElements t n)
 unfolding recordCount
 acceptable-accepted v n t a =
-    all-good v n t (a .vertices) (a .elements) (let l = a .long in omega arith) (none-at-fault v t n (a .clean)) (none-misfits t n (a .fit)) .verdict
+    all-clean v n t (a .vertices) (a .elements) (let l = a .long in omega arith) (none-at-fault v t n (a .clean)) .verdict
+    ∙ all-fit t n (none-misfits t n (a .fit))
 
 -- and is so of every table that is accepted
 pub accepted-acceptable : (v n : ℕ) (t : List ℕ) (es : List Element) → judged v n t ≡ accepted es → Acceptable v n t
