@@ -58,7 +58,5 @@ fn main() {
     sample(b"VX -500.000 0.5 500\nEN 1 0\n");
     sample(b"VX 0 0 0\nVX 1 0 0\nVX 0 1 0\nVX 0 0 1\nTE 4 3 2 1\nEN 4 1\n");
     sample(b"VX 0 0 0\nVX 1 0 0\nVX 0 1 0\nTE 1 2 3 3\nEN 3 1\n");
-    sample(
-        b"VX 0 0 0\nVX 1 0 0\nVX 0 1 0\nVX 0 0 1\nVX 1 1 1\nTE 1 2 3 4\nTE 1 2 3 5\nEN 5 2\n",
-    );
+    sample(b"VX 0 0 0\nVX 1 0 0\nVX 0 1 0\nVX 0 0 1\nVX 1 1 1\nTE 1 2 3 4\nTE 1 2 3 5\nEN 5 2\n");
 }

@@ -4,7 +4,7 @@ use text::write::write_element;
 use text::write::write_end;
 use text::write::write_vertex;
 ghost use mathlib.Core.Path.{_≡_};
-ghost use Prim.Native.Nat.{_+_, _*_, _≤_, _<_};
+ghost use Prim.Native.Nat.{_+_, _*_, _≤_};
 ghost use lib.ListN.{length};
 ghost use Rattle.laws.specs.Lent.{laid};
 ghost use Rattle.records.specs.Limits.{vertexLimit, tetrahedronLimit};
