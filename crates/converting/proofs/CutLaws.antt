@@ -17,12 +17,12 @@ use Rattle.faults.specs.declared.Finding.the-variants.{Clean}
 use Rattle.faults.specs.declared.Refusal.{Refusal}
 use Rattle.faults.specs.Refusals.{Verdict, accepted, refused, refuse, refuseIf, andThen}
 use Rattle.faults.proofs.Theorems.{answer-tells-verdict}
-use Rattle.solids.specs.Solids.{Vertex, Tet, tet, ofTet, Element, cornersOf}
+use Rattle.solids.specs.Solids.{Vertex, Tet, ofTet, Element, cornersOf}
 use Rattle.solids.specs.Cut.{cut, cutMesh}
 use Rattle.solids.specs.Fit.{proper}
 use Rattle.solids.proofs.Theorems.{plain}
 use Rattle.records.specs.Limits.{vertexLimit, tetrahedronLimit, tetrahedronWidth}
-use Rattle.records.specs.Record.{kindOf, numbersOf, usedOf, spareOf, isKind, elementOf, recordFinding, recordAt, elementAt, firstElements}
+use Rattle.records.specs.Record.{asRecord, usedOf, elementOf, recordFinding, recordAt, elementAt, firstElements}
 use Rattle.records.specs.Loops.{isNumber}
 use Rattle.records.proofs.Theorems.{faultless-clean}
 use Rattle.mesh.specs.declared.CutAnswer.{CutAnswer}
@@ -34,29 +34,16 @@ use Rattle.mesh.proofs.JudgeLaws.{records-inside}
 use Rattle.mesh.proofs.AcceptedLaws.{no-bad-record}
 use Rattle.mesh.proofs.StoreLaws.{length-flat}
 use Rattle.mesh.proofs.Theorems.{accepted-elements, accepted-proper, accepted-tetrahedra}
-use Rattle.converting.specs.Conversion.{cutRoom, asRecord}
+use Rattle.records.proofs.TetrahedronRecord.{isGood, record-faultless}
+use Rattle.converting.specs.Conversion.{cutRoom}
 use Rattle.converting.specs.ConversionLoops.{GoodTetrahedra}
 use Rattle.converting.proofs.PutLaws.{take-laid}
 use Rattle.converting.proofs.MeshTextLaws.{noTet, tetrahedron-record}
 
 -- ---- a tetrahedron
 
--- four different vertices between 1 and a limit
-abbrev isGood : ℕ → Tet Vertex → Bool
-isGood limit t = every (isNumber limit) (ofTet t) && distinct (ofTet t)
-
 good-clean : (t : Tet Vertex) → T (isGood vertexLimit t) → recordFinding vertexLimit (asRecord t) ≡ Clean
-unfolding kindOf numbersOf usedOf spareOf isKind
-good-clean (tet a b c d) h =
-    let vs = a ∷ b ∷ c ∷ d ∷ [] in
-    faultless-clean vertexLimit (asRecord (tet a b c d))
-    (record {
-      wide = refl;
-      kind = tt;
-      inside = and-left (every (isNumber vertexLimit) vs) (distinct vs) h;
-      unused = tt;
-      apart = and-right (every (isNumber vertexLimit) vs) (distinct vs) h;
-    })
+good-clean t h = faultless-clean vertexLimit (asRecord t) (record-faultless vertexLimit t h)
 
 -- ---- the cut of an element, and of a mesh
 
@@ -97,12 +84,12 @@ module _ (v limit : ℕ) (below : v ≤ limit) where
 -- ---- an accepted cut
 
 -- an accepted cut is the cut of an accepted table
-record FromTable (v n : ℕ) (t : List ℕ) (ts : List (Tet Vertex)) : Type 0 where
-  elements : List Element
-  sound : judged v n t ≡ accepted elements
-  same : ts ≡ cutMesh elements
+pub record FromTable (v n : ℕ) (t : List ℕ) (ts : List (Tet Vertex)) : Type 0 where
+  pub elements : List Element
+  pub sound : judged v n t ≡ accepted elements
+  pub same : ts ≡ cutMesh elements
 
-cut-of-table : (v n : ℕ) (t : List ℕ) (room : ℕ) (ts : List (Tet Vertex)) → cutOf v n t room ≡ accepted ts → FromTable v n t ts
+pub cut-of-table : (v n : ℕ) (t : List ℕ) (room : ℕ) (ts : List (Tet Vertex)) → cutOf v n t room ≡ accepted ts → FromTable v n t ts
 unfolding cutOf
 cut-of-table v n t room ts = by (judged v n t) refl
   where

@@ -10,13 +10,13 @@ use lib.Seq.{getD-take, getD-drop, drop-drop, take-at, drop-at}
 use Rattle.laws.specs.Words.{gather}
 use Rattle.laws.proofs.ListLaws.{gather-append}
 use Rattle.records.specs.Limits.{vertexWidth, tetrahedronWidth}
-use Rattle.records.specs.Record.{width}
+use Rattle.records.specs.Record.{width, asRecord}
 use Rattle.solids.specs.Solids.{Vertex, Tet, tet, ofTet}
 use Rattle.mesh.specs.Cutting.{flat}
 use Rattle.text.specs.File.{start}
 use Rattle.text.specs.Written.{closed, vertexLine, elementLine, endLine, vertexLines, elementLines, afterLines, linesFrom, fileLines, writtenFile}
 use Rattle.text.specs.declared.terms.ReaderState.{ReaderState}
-use Rattle.converting.specs.Conversion.{asRecord, cutText}
+use Rattle.converting.specs.Conversion.{cutText}
 use Rattle.converting.specs.ConversionLoops.{vertexText, tetrahedronRecord, tetrahedronText, textTo, meshText}
 
 -- ---- texts of records

@@ -114,15 +114,21 @@ pub record Read (file : List ℕ) (vertices elements : ℕ) (vertexTable : List 
   pub few : elements ≤ 1024
   pub good : GoodVertices (storedVertices rooms file) vertices
 
--- the vertices of an accepted file
+-- the vertices of an accepted file: three numbers each, and as many as its count says
+pub file-long : (file cs : List ℕ) → fileVerdict rooms file ≡ accepted cs → length (storedVertices rooms file) ≡ vertexWidth * getD cs 0 0
+unfolding storedVertices
+file-long file cs e =
+    let f = file-fits rooms file cs e in
+    let v : getD cs 0 0 ≡ f .final .vertices = ap (λ (l : List ℕ). getD l 0 0) (f .counts) in
+    rw (e, v) (f .vertices)
+
 pub file-good : (file cs : List ℕ) → fileVerdict rooms file ≡ accepted cs → GoodVertices (storedVertices rooms file) (getD cs 0 0)
 unfolding storedVertices
 file-good file cs e =
     let f = file-fits rooms file cs e in
     let v : getD cs 0 0 ≡ f .final .vertices = ap (λ (l : List ℕ). getD l 0 0) (f .counts) in
-    let vs : storedVertices rooms file ≡ recordsFrom vertexRecords start (linesOf file) = ap (λ x. ofAccepted x (recordsFrom vertexRecords start (linesOf file))) e in
-    let l : length (storedVertices rooms file) ≡ vertexWidth * getD cs 0 0 = rw (vs, v) (f .vertices) in
-    record { few = rw v (f .kept .vertices); long = rw l (omega arith); ranged = rw vs (records-ranged start (linesOf file)) }
+    let l = file-long file cs e in
+    record { few = rw v (f .kept .vertices); long = omega (arith, l); ranged = rw e (records-ranged start (linesOf file)) }
 
 -- records of a known length at the front of a table
 front : {A : Type 0} {n : ℕ} (records old : List A) {new : List A} → new ≡ laid records old → length records ≡ n → take n new ≡ records

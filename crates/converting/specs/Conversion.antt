@@ -1,13 +1,13 @@
 -- What the program writes for an input: the cut mesh, or one line `NO number place second`.
-use mathlib.Core.List.{List, [], _∷_, _++_}
+use mathlib.Core.List.{List}
 use Prim.Native.Nat.{ℕ, _*_}
 use lib.IntN.{ℤ}
 use lib.ListN.{length, getD}
 use Rattle.laws.specs.Words.{gather}
 use Rattle.faults.specs.Refusals.{Verdict, accepted, refused, andThen}
-use Rattle.solids.specs.Solids.{Vertex, Tet, ofTet}
+use Rattle.solids.specs.Solids.{Vertex, Tet}
 use Rattle.records.specs.Limits.{vertexLimit, elementLimit, tetrahedronLimit, vertexWidth, tetrahedronWidth}
-use Rattle.records.specs.Record.{width}
+use Rattle.records.specs.Record.{width, asRecord}
 use Rattle.mesh.specs.Cutting.{cutOf}
 use Rattle.text.specs.declared.terms.Rooms.{Rooms}
 use Rattle.text.specs.File.{fileVerdict}
@@ -20,10 +20,6 @@ rooms = record { vertices = vertexWidth * vertexLimit; elements = width * elemen
 
 abbrev pub cutRoom : ℕ
 cutRoom = tetrahedronWidth * tetrahedronLimit
-
--- a tetrahedron as an element record: kind 4, its four vertex numbers, unused ones zero
-abbrev pub asRecord : Tet Vertex → List ℕ
-asRecord t = 4 ∷ (ofTet t ++ (0 ∷ 0 ∷ 0 ∷ 0 ∷ []))
 
 -- the cut mesh as text: all vertices, all tetrahedra, then EN with their counts
 unfoldable pub cutText : List ℤ → ℕ → List (Tet Vertex) → List ℕ

@@ -18,15 +18,15 @@ use Rattle.solids.specs.Cut.{cut, cutMesh}
 use Rattle.solids.specs.Fit.{proper, fitting}
 use Rattle.solids.specs.Listings.{asElement}
 use Rattle.solids.proofs.Theorems.{plain, again-fitting, again-cut}
-use Rattle.records.specs.Record.{width, elementOf, recordFinding, recordAt, elementAt, firstElements}
+use Rattle.records.specs.Record.{width, asRecord, elementOf, recordFinding, recordAt, elementAt, firstElements}
 use Rattle.records.specs.Loops.{isNumber}
 use Rattle.records.proofs.Theorems.{clean-faultless, faultless-clean, first-are, first-all, gathered-length, gathered-at}
 use Rattle.mesh.specs.Judge.{mostElements, judged}
 use Rattle.mesh.specs.Acceptance.{Acceptable}
 use Rattle.mesh.specs.Cutting.{tetWidth, flat, cutOf}
 use Rattle.mesh.proofs.Theorems.{accepted-elements, accepted-proper, accepted-fitting, accepted-acceptable, acceptable-accepted}
-use Rattle.promises.specs.Tables.{asRecord, asTable, BeginsWith, tetrahedraIn}
-use Rattle.promises.proofs.TetrahedronRecord.{record-wide, record-element, isGood, record-faultless}
+use Rattle.promises.specs.Tables.{asTable, BeginsWith, tetrahedraIn}
+use Rattle.records.proofs.TetrahedronRecord.{record-wide, record-element, isGood, record-faultless}
 use Rattle.promises.proofs.AnswerLaws.{accepted-first, DoneCut, done-tetrahedra}
 
 -- ---- tetrahedra as a table
@@ -37,6 +37,10 @@ module _ (ts : List (Tet Vertex)) where
 
   all-wide : T (every (λ u. eqb (length (asRecord u)) width) ts)
   all-wide = every-indexed (λ u. eqb (length (asRecord u)) width) d ts (λ k h. record-wide (getD ts k d))
+
+  pub table-long : length (asTable ts) ≡ width * length ts
+  unfolding asTable
+  table-long = gathered-length asRecord ts all-wide
 
   -- the table of tetrahedra begins with them, whatever stands behind it
   pub table-begins : (rest : List ℕ) → BeginsWith ts (asTable ts ++ rest)

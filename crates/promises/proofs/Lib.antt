@@ -3,7 +3,6 @@ pub mod AnswerLaws
 pub mod RelistedTables
 pub mod RelistedRecords
 pub mod ReorderedTables
-pub mod TetrahedronRecord
 pub mod CutOfCutTables
 pub mod SurfaceOfTables
 pub mod OneCut
@@ -15,3 +14,5 @@ pub mod ReadBackStored
 pub mod ReadBackCalls
 pub mod ReadBackAgain
 pub mod ReadBack
+pub mod OwnOutputLaws
+pub mod OwnOutput

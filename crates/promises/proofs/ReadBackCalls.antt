@@ -81,7 +81,7 @@ vertex-point table k =
         ∙ sym (getD-take vertexWidth (drop (vertexWidth * k) table) j (pos 0) h ∙ getD-drop (vertexWidth * k) table j (pos 0))
 
 -- a point within the limits is a record within the limits, and the other way round
-point-ranged : (table : List ℤ) (k : ℕ) → pointInRange (pointAt table (k + 1)) ≡ true → Ranged (vertexAt table k)
+pub point-ranged : (table : List ℤ) (k : ℕ) → pointInRange (pointAt table (k + 1)) ≡ true → Ranged (vertexAt table k)
 point-ranged table k h =
     let c = coordinates _ (rw (vertex-point table k) at h) in
     record { x = c .on-x; y = c .on-y; z = c .on-z }

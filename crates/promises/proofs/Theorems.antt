@@ -42,7 +42,7 @@ use Rattle.promises.proofs.AnswerLaws as AnswerLaws
 use Rattle.promises.proofs.RelistedTables as RelistedTables
 use Rattle.promises.proofs.RelistedRecords as RelistedRecords
 use Rattle.promises.proofs.ReorderedTables as ReorderedTables
-use Rattle.promises.proofs.TetrahedronRecord.{isGood}
+use Rattle.records.proofs.TetrahedronRecord.{isGood}
 use Rattle.promises.proofs.CutOfCutTables as CutOfCutTables
 use Rattle.promises.proofs.SurfaceOfTables as SurfaceOfTables
 use Rattle.promises.proofs.OneCut as OneCut

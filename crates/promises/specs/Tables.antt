@@ -6,12 +6,12 @@ use lib.Dec.{T}
 use lib.ListN.{length, getD, drop}
 use Rattle.laws.specs.Words.{gather}
 use Rattle.laws.specs.Lent.{laid}
-use Rattle.solids.specs.Solids.{Place, Vertex, Tri, Tet, tet, Element, at, ofTet}
+use Rattle.solids.specs.Solids.{Place, Vertex, Tri, Tet, tet, Element, at}
 use Rattle.solids.specs.Cut.{cutFace, cut}
 use Rattle.solids.specs.Fit.{outerFaces}
 use Rattle.solids.specs.Surface.{back, times, owners}
 use Rattle.solids.specs.Listings.{Relists, isOrder, picked}
-use Rattle.records.specs.Record.{width, kindOf, usedOf, spareOf, recordOf, elementOf, recordAt}
+use Rattle.records.specs.Record.{width, kindOf, usedOf, spareOf, recordOf, asRecord, elementOf, recordAt}
 use Rattle.mesh.specs.Cutting.{tetWidth}
 
 -- ---- relisting
@@ -58,10 +58,6 @@ unfoldable pub blocksInOrder : List ℕ → List Element → List (Tet Vertex)
 blocksInOrder σ es = gather (λ b. b) (picked [] σ (map cut es))
 
 -- ---- tetrahedra
-
--- a tetrahedron as an element record: kind 4, its four vertex numbers, unused ones zero
-abbrev pub asRecord : Tet Vertex → List ℕ
-asRecord t = recordOf 4 (ofTet t) (0 ∷ 0 ∷ 0 ∷ 0 ∷ [])
 
 -- tetrahedra as a table of element records
 unfoldable pub asTable : List (Tet Vertex) → List ℕ

@@ -2,3 +2,4 @@
 pub mod RecordLaws
 pub mod GatheredLaws
 pub mod Theorems
+pub mod TetrahedronRecord

@@ -6,12 +6,12 @@ use Prim.Native.Nat.{ℕ, zero, suc, _*_, _/_}
 use lib.Dec.{eqb, ltb}
 use lib.ListN.{length, getD, take, drop}
 use Rattle.laws.specs.Words.{some, distinct}
-use Rattle.faults.specs.declared.Fault.the-variants.{Kind, Vertex, Spare, Repeat}
+use Rattle.faults.specs.declared.Fault.the-variants as fault
 use Rattle.faults.specs.declared.Finding.{Finding}
 use Rattle.faults.specs.declared.Finding.the-variants.{Clean, Found}
 use Rattle.solids.specs.declared.Solid.{Solid}
 use Rattle.solids.specs.declared.Solid.the-variants.{Tetrahedron, Pyramid, Prism, Hexahedron}
-use Rattle.solids.specs.Solids.{Place, Element, element, at}
+use Rattle.solids.specs.Solids.{Place, Vertex, Tet, ofTet, Element, element, at}
 
 -- how many numbers a record has
 abbrev pub width : ℕ
@@ -36,6 +36,10 @@ spareOf r = drop (kindOf r) (numbersOf r)
 -- the record of a kind, the vertex numbers of its corners and the unused ones
 abbrev pub recordOf : ℕ → List ℕ → List ℕ → List ℕ
 recordOf k used spare = k ∷ (used ++ spare)
+
+-- a tetrahedron as a record: kind 4, its four vertex numbers, unused ones zero
+abbrev pub asRecord : Tet Vertex → List ℕ
+asRecord t = recordOf 4 (ofTet t) (0 ∷ 0 ∷ 0 ∷ 0 ∷ [])
 
 -- the vertex number at a place, 0 where there is none
 unfoldable pub cornerAt : List ℕ → Place → ℕ
@@ -65,10 +69,10 @@ notZero v = not (eqb v 0)
 -- what is not nine numbers is KIND
 unfoldable pub recordFinding : ℕ → List ℕ → Finding
 recordFinding limit r =
-    cond (not (eqb (length r) width && isKind (kindOf r))) (Found Kind)
-    (cond (some (strayVertex limit) (usedOf r)) (Found Vertex)
-    (cond (some notZero (spareOf r)) (Found Spare)
-    (cond (not (distinct (usedOf r))) (Found Repeat)
+    cond (not (eqb (length r) width && isKind (kindOf r))) (Found fault.Kind)
+    (cond (some (strayVertex limit) (usedOf r)) (Found fault.Vertex)
+    (cond (some notZero (spareOf r)) (Found fault.Spare)
+    (cond (not (distinct (usedOf r))) (Found fault.Repeat)
     Clean)))
 
 -- how many whole records a table holds

@@ -12,10 +12,9 @@ use Rattle.laws.specs.Words.{every, distinct}
 use Rattle.laws.proofs.TestLaws.{true-T, and-left, and-right}
 use Rattle.solids.specs.Solids.{Vertex, Tet, tet, Element, element, ofTet}
 use Rattle.solids.specs.Listings.{asElement}
-use Rattle.records.specs.Record.{width, kindOf, usedOf, spareOf, isKind, solidOf, elementOf}
+use Rattle.records.specs.Record.{width, kindOf, usedOf, spareOf, isKind, solidOf, elementOf, asRecord}
 use Rattle.records.specs.Loops.{isNumber, Faultless}
 use Rattle.records.proofs.Theorems.{made-length, made-kind, made-used, made-spare}
-use Rattle.promises.specs.Tables.{asRecord}
 
 abbrev zeros : List ℕ
 zeros = 0 ∷ 0 ∷ 0 ∷ 0 ∷ []
