@@ -1,27 +1,13 @@
 //! Each `NNN.in` of tests/vectors is what stands on standard input; `NNN.out` is all that the
 //! program writes for it: the cut mesh, or one line `NO number place second`.
 
-use brinetoggle::twin;
+use brinetoggle_twin::twin;
 use std::fs;
 use std::path::{Path, PathBuf};
 
-/// More than the text of the largest cut takes.
-const OUTPUT_ROOM: usize = 300_000;
-
-/// What the program writes for an input.
-fn program(input: &[u8]) -> Vec<u8> {
-    let mut output = vec![0; OUTPUT_ROOM];
-    let length = match twin::convert(input, &mut output) {
-        Ok(length) => length,
-        Err(refusal) => twin::write_refusal(&refusal, &mut output).expect("there is room"),
-    };
-    output.truncate(length);
-    output
-}
-
 /// The inputs in the order of their numbers.
 fn inputs() -> Vec<PathBuf> {
-    let folder = Path::new(env!("CARGO_MANIFEST_DIR")).join("../tests/vectors");
+    let folder = Path::new(env!("CARGO_MANIFEST_DIR")).join("../../tests/vectors");
     let mut inputs: Vec<PathBuf> = fs::read_dir(folder)
         .expect("the vectors are there")
         .map(|entry| entry.expect("an entry").path())
@@ -35,7 +21,7 @@ fn inputs() -> Vec<PathBuf> {
 fn passes(path: &Path) -> bool {
     let input = fs::read(path).expect("an input");
     let expected = fs::read(path.with_extension("out")).expect("an output");
-    let written = program(&input);
+    let written = twin::program(&input);
     if written != expected {
         println!("== {} ==", path.display());
         println!("-- input --\n{}", input.escape_ascii());
