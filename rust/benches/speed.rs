@@ -2,6 +2,7 @@
 //!
 //!     cargo bench --offline                  the tables of docs/SPEED.md
 //!     cargo bench --offline -- --strict      the same; status 1 where a bar is passed
+//!     cargo bench --offline -- judge cut     only some entries, as for a profile
 //!
 //! Each number is the least of many interleaved rounds, so that a busy machine disturbs it little.
 
@@ -324,7 +325,31 @@ fn convert(sample: &Sample) -> Row {
     )
 }
 
-const ENTRIES: [fn(&Sample) -> Row; 6] = [read, judge, cut, signs, write, convert];
+/// Times an entry on a mesh.
+type Entry = fn(&Sample) -> Row;
+
+const ENTRIES: [(&str, Entry); 6] = [
+    ("read", read),
+    ("judge", judge),
+    ("cut", cut),
+    ("signs", signs),
+    ("write", write),
+    ("convert", convert),
+];
+
+/// The entries that the command line names, or all.
+fn chosen_entries() -> Vec<Entry> {
+    let named: Vec<String> = std::env::args()
+        .skip(1)
+        .filter(|word| !word.starts_with('-'))
+        .collect();
+    let chosen = |(name, _): &&(&str, Entry)| named.is_empty() || named.iter().any(|n| n == name);
+    ENTRIES
+        .iter()
+        .filter(chosen)
+        .map(|&(_, entry)| entry)
+        .collect()
+}
 
 fn microseconds(time: Duration) -> String {
     format!("{:.1}", time.as_secs_f64() * 1e6)
@@ -402,7 +427,8 @@ fn main() -> ExitCode {
         largest.vertex_count,
         largest.text.len()
     );
-    let rows: Vec<Vec<Row>> = ENTRIES
+    let entries = chosen_entries();
+    let rows: Vec<Vec<Row>> = entries
         .iter()
         .map(|entry| sizes.iter().map(entry).collect())
         .collect();
@@ -411,7 +437,7 @@ fn main() -> ExitCode {
     for mut rows in rows {
         table.extend(rows.pop());
     }
-    table.extend(ENTRIES.iter().map(|entry| entry(&most_vertices)));
+    table.extend(entries.iter().map(|entry| entry(&most_vertices)));
     print_rows("The largest meshes", &table);
     print_vtk(largest);
     let over = table.iter().filter(|row| row.is_over()).count();
