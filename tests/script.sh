@@ -37,6 +37,10 @@ same() {
 # build before the clock of the first test starts
 "$root/brinetoggle" < examples/prism.mesh > /dev/null || { echo 'FAILED: the first run'; exit 1; }
 
+echo '- the examples are what they say'
+expect 'examples/shell-wall.mesh is what its script prints' same "$(python3 tools/shell_wall.py | same - examples/shell-wall.mesh)"
+expect 'the same with 1,250' same "$(sed 's/1\.250/1,250/g' examples/shell-wall.mesh | same - examples/shell-wall-comma.mesh)"
+
 echo '- the examples, from standard input and by name'
 for expected in tests/examples/*.out; do
   mesh=examples/$(basename "$expected" .out).mesh
