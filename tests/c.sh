@@ -16,9 +16,8 @@ if command -v c++ > /dev/null; then
   c++ -std=c++11 "${warnings[@]}" -Iinclude -fsyntax-only "$scratch/header.cpp"
 fi
 
-# shellcheck disable=SC2086
 build() {
-  cc -std=c99 -O1 "${warnings[@]}" -Iinclude "$1" "$archive" ${BRINE_LIBRARY_LINKS:-} -o "$scratch/program"
+  cc -std=c99 -O1 "${warnings[@]}" -Iinclude "$1" "$archive" -o "$scratch/program"
 }
 
 build tests/front.c
