@@ -4,14 +4,14 @@
 //!     cargo bench --offline -- --strict      the same; status 1 where a bar is passed
 //!     cargo bench --offline -- judge cut     only some entries, as for a profile
 //!
-//! Each number is the least of many interleaved rounds, so that a busy machine disturbs it little.
+//! Each number is processor time, the least of many interleaved rounds, so that a busy machine disturbs it little.
 
 use brinetoggle_twin::random::{Mesh, plain_text};
 use brinetoggle_twin::twin;
 use std::hint::black_box;
 use std::path::PathBuf;
 use std::process::{Command, ExitCode};
-use std::time::{Duration, Instant};
+use std::time::Duration;
 
 /// How often an entry may take the twin's time.
 const ENTRY_BAR: f64 = 1.25;
@@ -149,13 +149,37 @@ impl Sample {
     }
 }
 
+/// As C has it on 64-bit Linux.
+#[repr(C)]
+struct Timespec {
+    seconds: i64,
+    nanoseconds: i64,
+}
+
+unsafe extern "C" {
+    fn clock_gettime(clock: i32, time: *mut Timespec) -> i32;
+}
+
+/// The processor time that this thread has taken.
+fn thread_time() -> Duration {
+    const CLOCK_THREAD_CPUTIME_ID: i32 = 3;
+    let mut time = Timespec {
+        seconds: 0,
+        nanoseconds: 0,
+    };
+    // SAFETY: the pointer is to a structure of C's layout that lives through the call.
+    let status = unsafe { clock_gettime(CLOCK_THREAD_CPUTIME_ID, &mut time) };
+    assert_eq!(status, 0, "Linux has this clock");
+    Duration::new(time.seconds as u64, time.nanoseconds as u32)
+}
+
 /// The time of one call, over enough calls to be measured.
 fn time(call: &mut dyn FnMut(), repeats: usize) -> Duration {
-    let start = Instant::now();
+    let start = thread_time();
     for _ in 0..repeats {
         call();
     }
-    start.elapsed() / repeats as u32
+    (thread_time() - start) / repeats as u32
 }
 
 /// How many calls fill a round.
