@@ -1,54 +1,45 @@
-//! Each `NNN.in` of tests/vectors is what stands on standard input; `NNN.out` is all that the
-//! program writes for it: the cut mesh, or one line `NO number place second`.
+//! The library writes for each stored input what is stored beside it, and so do its parts one after the other.
 
-use brinetoggle::twin;
-use std::fs;
-use std::path::{Path, PathBuf};
+use brinetoggle::{Answer, ELEMENT_LIMIT, ELEMENT_WIDTH, LONGEST_RECORD, TETRAHEDRON_LIMIT};
+use brinetoggle::{TETRAHEDRON_WIDTH, VERTEX_LIMIT, VERTEX_WIDTH};
+use brinetoggle_twin::vectors;
 
-/// More than the text of the largest cut takes.
-const OUTPUT_ROOM: usize = 300_000;
-
-/// What the program writes for an input.
-fn program(input: &[u8]) -> Vec<u8> {
-    let mut output = vec![0; OUTPUT_ROOM];
-    let length = match twin::convert(input, &mut output) {
-        Ok(length) => length,
-        Err(refusal) => twin::write_refusal(&refusal, &mut output).expect("there is room"),
-    };
-    output.truncate(length);
-    output
+/// The cut mesh, or the program's line for a refusal.
+fn program(cut: Answer<Vec<u8>>) -> Vec<u8> {
+    cut.unwrap_or_else(|refusal| format!("{refusal}\n").into_bytes())
 }
 
-/// The inputs in the order of their numbers.
-fn inputs() -> Vec<PathBuf> {
-    let folder = Path::new(env!("CARGO_MANIFEST_DIR")).join("../tests/vectors");
-    let mut inputs: Vec<PathBuf> = fs::read_dir(folder)
-        .expect("the vectors are there")
-        .map(|entry| entry.expect("an entry").path())
-        .filter(|path| path.extension().is_some_and(|extension| extension == "in"))
-        .collect();
-    inputs.sort();
-    inputs
-}
-
-/// Whether the program's text is the expected one; a difference is printed whole.
-fn passes(path: &Path) -> bool {
-    let input = fs::read(path).expect("an input");
-    let expected = fs::read(path.with_extension("out")).expect("an output");
-    let written = program(&input);
-    if written != expected {
-        println!("== {} ==", path.display());
-        println!("-- input --\n{}", input.escape_ascii());
-        println!("-- expected --\n{}", expected.escape_ascii());
-        println!("-- written --\n{}", written.escape_ascii());
+/// Reading, cutting and writing by the entries, a record a call.
+fn step_by_step(input: &[u8]) -> Answer<Vec<u8>> {
+    let mut vertices = vec![0; VERTEX_WIDTH * VERTEX_LIMIT];
+    let mut elements = vec![0; ELEMENT_WIDTH * ELEMENT_LIMIT];
+    let mut tetrahedra = vec![0; TETRAHEDRON_WIDTH * TETRAHEDRON_LIMIT];
+    let counts = brinetoggle::read(input, &mut vertices, &mut elements)?;
+    let count = brinetoggle::cut(counts.vertices, counts.elements, &elements, &mut tetrahedra)?;
+    let mut text = Vec::new();
+    let mut line = [0; LONGEST_RECORD];
+    for point in vertices[..VERTEX_WIDTH * counts.vertices].chunks(VERTEX_WIDTH) {
+        let length = brinetoggle::write_vertex(point[0], point[1], point[2], &mut line)?;
+        text.extend_from_slice(&line[..length]);
     }
-    written == expected
+    for corners in tetrahedra[..TETRAHEDRON_WIDTH * count].chunks(TETRAHEDRON_WIDTH) {
+        let mut record = [0; ELEMENT_WIDTH];
+        record[0] = 4;
+        record[1..5].copy_from_slice(corners);
+        let length = brinetoggle::write_element(&record, &mut line)?;
+        text.extend_from_slice(&line[..length]);
+    }
+    let length = brinetoggle::write_end(counts.vertices, count, &mut line)?;
+    text.extend_from_slice(&line[..length]);
+    Ok(text)
 }
 
 #[test]
-fn twin_writes_every_expected_output() {
-    let inputs = inputs();
-    assert!(inputs.len() >= 177, "only {} vectors", inputs.len());
-    let failing = inputs.iter().filter(|path| !passes(path)).count();
-    assert_eq!(failing, 0, "of {} vectors", inputs.len());
+fn convert_writes_every_expected_output() {
+    vectors::check_all(|input| program(brinetoggle::convert_text(input)));
+}
+
+#[test]
+fn the_entries_one_by_one_write_every_expected_output() {
+    vectors::check_all(|input| program(step_by_step(input)));
 }

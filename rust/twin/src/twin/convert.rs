@@ -5,8 +5,19 @@ use super::judge::judge;
 use super::read::{Mesh, read_within};
 use super::refusal::{Answer, Fault};
 use super::solid::{Tetrahedron, records};
-use super::write::Line;
-use super::{ELEMENT_LIMIT, ELEMENT_WIDTH, VERTEX_LIMIT, VERTEX_WIDTH};
+use super::write::{Line, write_refusal};
+use super::{ELEMENT_LIMIT, ELEMENT_WIDTH, LONGEST_OUTPUT, VERTEX_LIMIT, VERTEX_WIDTH};
+
+/// What the program writes for an input: the cut mesh, or one line `NO number place second`.
+pub fn program(input: &[u8]) -> Vec<u8> {
+    let mut output = vec![0; LONGEST_OUTPUT];
+    let length = match convert(input, &mut output) {
+        Ok(length) => length,
+        Err(refusal) => write_refusal(&refusal, &mut output).expect("there is room"),
+    };
+    output.truncate(length);
+    output
+}
 
 /// Reads a mesh, cuts it and leaves the cut mesh as text in the output; its length is the answer.
 pub fn convert(input: &[u8], output: &mut [u8]) -> Answer<usize> {

@@ -14,7 +14,7 @@ mod signs;
 mod solid;
 mod write;
 
-pub use convert::convert;
+pub use convert::{convert, program};
 pub use cut::{Block, cut, cut_element, cut_face};
 pub use fit::fits;
 pub use judge::{judge, judge_record};
@@ -32,6 +32,8 @@ pub const VERTEX_LIMIT: usize = 4_096;
 pub const ELEMENT_LIMIT: usize = 1_024;
 /// The most tetrahedra of a cut, and of a file that is written.
 pub const TETRAHEDRON_LIMIT: usize = 6_144;
+/// No cut mesh is longer, in bytes: a VX line has at most 30, a TE line 23, the EN line 13.
+pub const LONGEST_OUTPUT: usize = 30 * VERTEX_LIMIT + 23 * TETRAHEDRON_LIMIT + 13;
 /// The greatest coordinate, in thousandths of a millimetre; its negative is the least.
 pub const COORDINATE_LIMIT: i32 = 500_000;
 /// The numbers of a vertex in a vertex table.

@@ -1,6 +1,6 @@
 //! The samples of document 01, run.
 
-use brinetoggle::twin::{self, Counts, Fault, Record, Refusal, Signs};
+use brinetoggle_twin::twin::{self, Counts, Fault, Record, Refusal, Signs};
 
 /// The table "Element | Cut": kind and corners, then the tetrahedra.
 const CUTS: &[(&[u16], &[[u16; 4]])] = &[

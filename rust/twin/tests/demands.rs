@@ -1,10 +1,10 @@
 //! What the cut, the reader and the writer promise together, over random meshes.
 
-use brinetoggle::random::{
+use brinetoggle_twin::random::{
     self, FileCase, Grid, Mesh, Random, Style, TableCase, case_count, file_case, limit_files,
     limit_tables, mirrored, relisted, rotations, table_case,
 };
-use brinetoggle::twin::{
+use brinetoggle_twin::twin::{
     self, Counts, Fault, Record, Refusal, Signs, Solid, Tetrahedron, Triangle,
 };
 use std::cell::{Cell, RefCell};

@@ -110,6 +110,7 @@ pub fn file_case(random: &mut Random) -> FileCase {
         }
         32..=35 => shorten_room(&mut case, &mesh, random),
         36..=38 => garbage(&mut case, random),
+        39 if random.once_in(4) => at_limit(&mut case, random),
         _ => {}
     }
     case
@@ -204,6 +205,18 @@ fn garbage(case: &mut FileCase, random: &mut Random) {
     for _ in 0..random.below(12) {
         case.bytes.extend_from_slice(random.pick(PIECES).as_bytes());
     }
+}
+
+/// A file about as long as a file may be, or with about as many vertices and elements as a mesh may have.
+fn at_limit(case: &mut FileCase, random: &mut Random) {
+    case.name = "near a limit";
+    case.bytes = if random.once_in(2) {
+        text_of_length(FILE_LIMIT - 2 + random.below(5))
+    } else {
+        short_text(&separate(4094 + random.below(5), 1022 + random.below(5)))
+    };
+    case.vertex_room = VERTEX_WIDTH * random.pick(&[4095, 4096, 4100]);
+    case.element_room = ELEMENT_WIDTH * random.pick(&[1023, 1024, 1030]);
 }
 
 /// Separate tetrahedra over so many vertices, four each.

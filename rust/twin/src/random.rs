@@ -6,12 +6,14 @@ mod cases;
 mod damage;
 mod grid;
 mod mesh;
+mod records;
 mod text;
 
 pub use cases::{FileCase, TableCase, file_case, limit_files, limit_tables, table_case};
 pub use damage::{damage_file, damage_table};
 pub use grid::{Grid, Style};
 pub use mesh::{Mesh, large_mesh, mesh, mirrored, random_record, relisted, rotations};
+pub use records::{RecordCase, Written, record_case};
 pub use text::{coordinate_text, free_text, plain_text};
 
 /// A small generator: xorshift with a multiplication at the end.
