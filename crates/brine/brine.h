@@ -1,7 +1,7 @@
 /* The front of Brinetoggle for C: link target/staticlib/libbrine.a, which `rt staticlib brine` makes.
  *
  * Each function returns the page's refusal number, 0 where it accepted. A slice is a pointer and a length that counts numbers, not
- * bytes; where the length is 0 the pointer may be anything. An array of fixed size is a bare pointer.
+ * bytes; its pointer is never null. An array of fixed size is a bare pointer.
  *
  * Each call writes its answer array whole: number, place, second number, then the values that its comment names; on a refusal the values
  * are 0. Other lent memory holds the records of an accepted call, then what stood behind them; a refused call leaves it as it was. No
