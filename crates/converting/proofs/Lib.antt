@@ -1,1 +1,11 @@
 -- What is proved of the conversion.
+pub mod PutLaws
+pub mod TableLaws
+pub mod MeshTextLaws
+pub mod ConvertLaws
+pub mod CutLaws
+pub mod ReadingLaws
+pub mod ConversionLaws
+pub mod ShortLaws
+pub mod PlaceLaws
+pub mod Theorems

@@ -76,7 +76,7 @@ module _ (v n : ℕ) (t : List ℕ) (es : List Element) (e : judged v n t ≡ ac
   unfolding pairs
   p₅ = passed (ltb 0 j) (refusePair j (misfit t (pred j))) last es (p₄ .rest)
 
-  no-bad-record : badRecord v t n ≡ 0
+  pub no-bad-record : badRecord v t n ≡ 0
   unfolding k
   no-bad-record = let h = ltb-false 0 k (p₄ .no) in omega arith
 

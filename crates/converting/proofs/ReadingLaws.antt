@@ -1,0 +1,165 @@
+-- What reading into tables with room for every file gives: the counts, the file's records at the front of the tables, and every coordinate within
+-- the limits. Assumes nothing.
+use mathlib.Core.Path.{_≡_, refl, sym, ap, _∙_}
+use mathlib.Core.Bool.{Bool, true, false, cond}
+use mathlib.Core.List.{List, [], _∷_, _++_}
+use Prim.Native.Nat.{ℕ, zero, suc, _+_, _*_, _≤_, _<_}
+use native.Mathlib.Omega.{arith}
+use borrow.Author.Tests.{leb-true, le-leb}
+use lib.Dec.{T, eqb, leb}
+use lib.IntN.{ℤ, pos, negsuc}
+use lib.ListN.{length, getD, take, drop}
+use Rattle.laws.specs.Words.{every}
+use Rattle.laws.specs.Lent.{laid}
+use Rattle.laws.specs.Pieces.{Pieces, rest, piece, split}
+use Rattle.laws.proofs.TestLaws.{true-T, and-both}
+use Rattle.laws.proofs.EveryLaws.{every-append}
+use Rattle.faults.specs.declared.Fault.the-variants as fault
+use Rattle.faults.specs.declared.Refusal.{Refusal}
+use Rattle.faults.specs.Refusals.{Verdict, accepted, refused}
+use Rattle.faults.proofs.Theorems.{answer-tells-verdict}
+use Rattle.volume.specs.Volume.{inRange}
+use Rattle.records.specs.Limits.{vertexWidth}
+use Rattle.records.specs.Record.{width}
+use Rattle.text.specs.Constants.{coordinateLimit, wholeDigits, comma, minus, point}
+use Rattle.text.specs.Number.{cut, signed, millimetres, whole, decimals, unsigned, coordinateOf, thousandthsIn, thousandthsOf}
+use Rattle.text.specs.Line.{markOf, roleOf, fieldsOf, firstOf, after}
+use Rattle.text.specs.File.{start, linesOf, fileVerdict}
+use Rattle.text.specs.Records.{vertexRecord, vertexRecords, elementRecords, recordsFrom, ofAccepted, storedVertices, storedElements, verdictOf, roomsOf, ReadDone}
+use Rattle.text.specs.declared.ReadAnswer.{ReadAnswer}
+use Rattle.text.specs.declared.ReadAnswer.the-variants.{Done, Refused}
+use Rattle.text.specs.declared.ReadCounts.{ReadCounts}
+use Rattle.text.specs.declared.terms.Spelt.{Spelt}
+use Rattle.text.specs.declared.terms.Spelt.the-variants.{Of, Not}
+use Rattle.text.specs.declared.terms.Coordinate.{Coordinate}
+use Rattle.text.specs.declared.terms.Coordinate.the-variants.{Thousandths, Wrong}
+use Rattle.text.specs.declared.terms.Role.{Role}
+use Rattle.text.specs.declared.terms.Role.the-variants.{VertexLine, ElementLine, EndLine, UnknownLine}
+use Rattle.text.specs.declared.terms.ReaderState.{ReaderState}
+use Rattle.text.proofs.AcceptedLaws.{file-fits}
+use Rattle.converting.specs.Conversion.{rooms}
+use Rattle.converting.specs.ConversionLoops.{GoodVertices}
+use Rattle.converting.proofs.PutLaws.{take-laid}
+
+-- ---- a coordinate that is read is within the limits
+
+abbrev Ranged : Coordinate → Type 0
+Ranged c = T (inRange (thousandthsIn c))
+
+wrong-ranged : (f : _) → Ranged (Wrong f)
+unfolding inRange
+wrong-ranged f = tt
+
+signed-ranged : (neg : Bool) (n : ℕ) → n ≤ coordinateLimit → T (inRange (signed neg n))
+unfolding inRange
+signed-ranged false n h = true-T (le-leb n coordinateLimit h)
+signed-ranged true zero h = tt
+signed-ranged true (suc n) h = and-both (leb n 499999) true (true-T (le-leb n 499999 (omega arith))) tt
+
+millimetres-ranged : (neg : Bool) (w f : Spelt) → Ranged (millimetres neg w f)
+unfolding millimetres
+millimetres-ranged neg (Of w) (Of f) = by (leb (w * 1000 + f) coordinateLimit) refl
+  where
+    by : (b : Bool) → leb (w * 1000 + f) coordinateLimit ≡ b → Ranged (cond b (Thousandths (signed neg (w * 1000 + f))) (Wrong fault.Range))
+    by true e = signed-ranged neg (w * 1000 + f) (leb-true _ _ e)
+    by false e = wrong-ranged fault.Range
+millimetres-ranged neg (Of w) Not = wrong-ranged fault.Number
+millimetres-ranged neg Not (Of f) = wrong-ranged fault.Number
+millimetres-ranged neg Not Not = wrong-ranged fault.Number
+
+unsigned-ranged : (neg : Bool) (p : Pieces) → Ranged (unsigned neg p)
+unfolding unsigned
+unsigned-ranged neg (rest w) = millimetres-ranged neg (whole wholeDigits w) (Of 0)
+unsigned-ranged neg (piece w (rest f)) = millimetres-ranged neg (whole wholeDigits w) (decimals f)
+unsigned-ranged neg (piece w (piece f p)) = wrong-ranged fault.Number
+
+thousandths-ranged : (l : List ℕ) → T (inRange (thousandthsOf l))
+unfolding thousandthsOf coordinateOf
+thousandths-ranged l = by (cut (split comma l)) (eqb (getD l 0 0) minus)
+  where
+    by : (a b : Bool) → Ranged (cond a (Wrong fault.Comma) (cond b (unsigned true (split point (drop 1 l))) (unsigned false (split point l))))
+    by true b = wrong-ranged fault.Comma
+    by false true = unsigned-ranged true (split point (drop 1 l))
+    by false false = unsigned-ranged false (split point l)
+
+first-ranged : (n : ℕ) (p : Pieces) → T (every inRange (firstOf thousandthsOf n p))
+unfolding firstOf
+first-ranged zero p = tt
+first-ranged (suc n) (rest l) = and-both (inRange (thousandthsOf l)) _ (thousandths-ranged l) (first-ranged n (rest []))
+first-ranged (suc n) (piece l p) = and-both (inRange (thousandthsOf l)) _ (thousandths-ranged l) (first-ranged n p)
+
+line-ranged : (state : ReaderState) (role : Role) (l : List ℕ) → T (every inRange (vertexRecords state role l))
+unfolding vertexRecords vertexRecord
+line-ranged state VertexLine l = first-ranged vertexWidth (fieldsOf l)
+line-ranged state ElementLine l = tt
+line-ranged state EndLine l = tt
+line-ranged state UnknownLine l = tt
+
+records-ranged : (state : ReaderState) (p : Pieces) → T (every inRange (recordsFrom vertexRecords state p))
+unfolding recordsFrom
+records-ranged state (rest l) = tt
+records-ranged state (piece l p) =
+    every-append inRange (vertexRecords state (roleOf (markOf l)) l) (recordsFrom vertexRecords (after state l) p)
+    (line-ranged state (roleOf (markOf l)) l) (records-ranged (after state l) p)
+
+-- ---- what reading leaves
+
+-- an accepted file: its counts, and its records at the front of the two tables
+pub record Read (file : List ℕ) (vertices elements : ℕ) (vertexTable : List ℤ) (elementTable : List ℕ) : Type 0 where
+  pub verdict : fileVerdict rooms file ≡ accepted (vertices ∷ elements ∷ [])
+  pub vertexNumbers : take (vertexWidth * vertices) vertexTable ≡ storedVertices rooms file
+  pub vertexEnd : vertexWidth * vertices ≡ length (take (vertexWidth * vertices) vertexTable)
+  pub elementNumbers : take (width * elements) elementTable ≡ storedElements rooms file
+  pub elementEnd : width * elements ≡ length (take (width * elements) elementTable)
+  pub few : elements ≤ 1024
+  pub good : GoodVertices (storedVertices rooms file) vertices
+
+-- the vertices of an accepted file
+pub file-good : (file cs : List ℕ) → fileVerdict rooms file ≡ accepted cs → GoodVertices (storedVertices rooms file) (getD cs 0 0)
+unfolding storedVertices
+file-good file cs e =
+    let f = file-fits rooms file cs e in
+    let v : getD cs 0 0 ≡ f .final .vertices = ap (λ (l : List ℕ). getD l 0 0) (f .counts) in
+    let vs : storedVertices rooms file ≡ recordsFrom vertexRecords start (linesOf file) = ap (λ x. ofAccepted x (recordsFrom vertexRecords start (linesOf file))) e in
+    let l : length (storedVertices rooms file) ≡ vertexWidth * getD cs 0 0 = rw (vs, v) (f .vertices) in
+    record { few = rw v (f .kept .vertices); long = rw l (omega arith); ranged = rw vs (records-ranged start (linesOf file)) }
+
+-- records of a known length at the front of a table
+front : {A : Type 0} {n : ℕ} (records old : List A) {new : List A} → new ≡ laid records old → length records ≡ n → take n new ≡ records
+front records old e f = rw (e, ← f) (take-laid records old)
+
+module _ (file : List ℕ) (vertices : List ℤ) (elements : List ℕ) (vertexRoom : length vertices ≡ rooms .vertices) (elementRoom : length elements ≡ rooms .elements) where
+  same : roomsOf vertices elements ≡ rooms
+  same = λ i. record { vertices = vertexRoom i; elements = elementRoom i }
+
+  told : {r : ReadAnswer} {vertices′ : List ℤ} {elements′ : List ℕ} → ReadDone file vertices elements r vertices′ elements′ → verdictOf r ≡ fileVerdict rooms file
+  told d = answer-tells-verdict (0 ∷ 0 ∷ []) _ _ (rw same at (d .answer))
+
+  pub read-refusal : {r : ReadAnswer} {vertices′ : List ℤ} {elements′ : List ℕ} {x : Refusal} → r ≡ Refused x → ReadDone file vertices elements r vertices′ elements′ → fileVerdict rooms file ≡ refused x
+  unfolding verdictOf
+  read-refusal p d = sym (told d) ∙ ap verdictOf p
+
+  pub read-stored : {r : ReadAnswer} {vertices′ : List ℤ} {elements′ : List ℕ} {c : ReadCounts} → r ≡ Done c → ReadDone file vertices elements r vertices′ elements′
+      → Read file (c .vertices) (c .elements) vertices′ elements′
+  unfolding verdictOf storedVertices storedElements
+  read-stored {c = c} p d =
+      let e : fileVerdict rooms file ≡ accepted (c .vertices ∷ c .elements ∷ []) = sym (told d) ∙ ap verdictOf p in
+      let f = file-fits rooms file (c .vertices ∷ c .elements ∷ []) e in
+      let cs = f .counts in
+      let v : c .vertices ≡ f .final .vertices = cc in
+      let n : c .elements ≡ f .final .elements = cc in
+      let vs : storedVertices rooms file ≡ recordsFrom vertexRecords start (linesOf file) = ap (λ x. ofAccepted x (recordsFrom vertexRecords start (linesOf file))) e in
+      let es : storedElements rooms file ≡ recordsFrom elementRecords start (linesOf file) = ap (λ x. ofAccepted x (recordsFrom elementRecords start (linesOf file))) e in
+      let vl : length (storedVertices rooms file) ≡ vertexWidth * c .vertices = rw (vs, v) (f .vertices) in
+      let el : length (storedElements rooms file) ≡ width * c .elements = rw (es, n) (f .elements) in
+      let vt = front (storedVertices rooms file) vertices (rw same at (d .vertexTable)) vl in
+      let et = front (storedElements rooms file) elements (rw same at (d .elementTable)) el in
+      record {
+        verdict = e;
+        vertexNumbers = vt;
+        vertexEnd = rw vt (sym vl);
+        elementNumbers = et;
+        elementEnd = rw et (sym el);
+        few = rw n (f .kept .elements);
+        good = file-good file (c .vertices ∷ c .elements ∷ []) e;
+      }
