@@ -28,6 +28,9 @@ extern "C" {
 #define BRINE_TETRAHEDRON_LIMIT 6144
 #define BRINE_COORDINATE_LIMIT 500000
 
+/* No conversion gives a longer text. */
+#define BRINE_OUTPUT_LIMIT 264205
+
 /* Refusal numbers. */
 enum {
     BRINE_DONE = 0,
@@ -66,6 +69,9 @@ uint32_t brine_signs(size_t vertex_count, size_t element_count, const uint16_t *
 uint32_t brine_write_vertex(int32_t x, int32_t y, int32_t z, uint8_t *buffer, size_t buffer_length, uint64_t answer[4]);
 uint32_t brine_write_element(const uint16_t record[9], uint8_t *buffer, size_t buffer_length, uint64_t answer[4]);
 uint32_t brine_write_end(size_t vertices, size_t elements, uint8_t *buffer, size_t buffer_length, uint64_t answer[4]);
+
+/* Converts a file into the cut mesh as text; value: its length. */
+uint32_t brine_convert(const uint8_t *input, size_t input_length, uint8_t *output, size_t output_length, uint64_t answer[4]);
 
 #ifdef __cplusplus
 }

@@ -25,7 +25,7 @@ module _ {k : ℕ} {v : Verdict (List ℕ)} {r r′ : ℕ} {answer answer′ : L
   pub answer-unique : FrontAnswer k v r answer → FrontAnswer k v r′ answer′ → SameAnswer r r′ answer answer′
   answer-unique h g = record { returned = h .number ∙ sym (g .number); array = h .numbers ∙ sym (g .numbers) }
 
-  -- `brine_read`, `brine_cut`, `brine_write_vertex`, `brine_write_element`, `brine_write_end`
+  -- `brine_read`, `brine_cut`, `brine_write_vertex`, `brine_write_element`, `brine_write_end`, `brine_convert`
   pub done-unique : {Memory : Type 0} {memory memory′ due : Memory} → FrontDone k v r answer memory due → FrontDone k v r′ answer′ memory′ due
       → SameDone r r′ answer answer′ memory memory′
   done-unique h g = record { answered = answer-unique (h .answered) (g .answered); left = h .left ∙ sym (g .left) }

@@ -4,6 +4,7 @@
 // 0 where it accepted, and writes the whole answer array: number, place, second number, then its own values, zeros where it refused.
 mod told;
 
+use converting::convert;
 use mesh::cut_mesh;
 use mesh::judge_mesh;
 use mesh::sign_report;
@@ -12,6 +13,7 @@ use text::write::write_element;
 use text::write::write_end;
 use text::write::write_vertex;
 ghost use lib.ListN.{length};
+ghost use Rattle.converting.specs.Converting.{conversionInto};
 ghost use Rattle.text.specs.Written.{writeVertexVerdict, writeElementVerdict, writeEndVerdict};
 ghost use Rattle.brine.specs.Entries.{ReadFront, JudgeFront, CutFront, SignFront, TextFront};
 
@@ -114,4 +116,13 @@ pub extern "C" fn brine_write_end(
 {
     let written = write_end(vertices, elements, buffer);
     told::tell(told::of_write(written), answer)
+}
+
+// Converts a file into the cut mesh as text; the value is its length.
+#[no_mangle]
+pub extern "C" fn brine_convert(input: &[u8], output: &mut [u8], answer: &mut [u64; 4]) -> u32
+    ensures { λ r. ⌜ TextFront (conversionInto (length (now (output .entry))) (now (input .entry))) (now (output .entry)) r (now (answer .exit)) (now (output .exit)) ⌝ }
+{
+    let converted = convert(input, output);
+    told::tell(told::of_convert(converted), answer)
 }

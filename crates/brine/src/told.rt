@@ -1,4 +1,5 @@
 // Answers of the entries as the page's numbers, and the array that they are written to.
+use converting::ConvertAnswer;
 use faults::Refusal;
 use faults::number_of;
 use mesh::CutAnswer;
@@ -14,6 +15,7 @@ ghost use Rattle.faults.specs.Refusals.{accepted, refused};
 ghost use Rattle.mesh.specs.Judge.{judgeVerdict};
 ghost use Rattle.mesh.specs.Cutting.{cutVerdict};
 ghost use Rattle.mesh.specs.Signs.{signVerdict};
+ghost use Rattle.converting.specs.Converting.{convertVerdict};
 ghost use Rattle.text.specs.Records.{verdictOf};
 ghost use Rattle.text.specs.Writing.{writeVerdict};
 ghost use Rattle.brine.specs.FrontLoops.{longest, Tells};
@@ -100,6 +102,16 @@ pub fn of_write(answer: WriteAnswer) -> Told
     match answer {
         WriteAnswer::Done(length) => done(length, 0, 0, 0),
         WriteAnswer::Refused(refusal) => refused(refusal),
+    }
+}
+
+// What converting says: the length of the text.
+pub fn of_convert(answer: ConvertAnswer) -> Told
+    ensures { λ r. ⌜ Tells 1 (convertVerdict answer) r ⌝ }
+{
+    match answer {
+        ConvertAnswer::Done(length) => done(length, 0, 0, 0),
+        ConvertAnswer::Refused(refusal) => refused(refusal),
     }
 }
 

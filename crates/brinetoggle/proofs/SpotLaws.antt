@@ -178,6 +178,7 @@ read-spot rooms file r = go (ltb text.fileLimit (length file)) (fileFrom rooms s
     at : (v : Verdict (List ℕ)) → InLines v → v ≡ refused r → spotOf r ≡ spot.Line (r .place)
     at (accepted counts) h e = absurd (let q : _≡_ {A = ℕ} 0 1 = cc in omega arith)
     at (refused s) h e = let q : s ≡ r = cc in line-spot r (subst AtLine q h)
+
     go : (b : Bool) (v : Verdict (List ℕ)) → InLines v → cond b (refused (refuse fault.Long 0)) v ≡ refused r
         → spotOf r ≡ cond b spot.File (spot.Line (r .place))
     go true v h e = let q : r ≡ refuse fault.Long 0 = cc in long-spot r q
