@@ -1,3 +1,4 @@
 pub mod ReadingLaws
+pub mod RespondingLaws
 pub mod SpotLaws
 pub mod Theorems
