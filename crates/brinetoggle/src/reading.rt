@@ -1,8 +1,10 @@
 // Standard input, read into lent room to its end or until the room is full. A read that fails is told apart from the end.
 use libc::STDIN_FILENO;
-ghost use Prim.Native.Nat.{_<_};
+ghost use mathlib.Core.Path.{_≡_};
+ghost use Prim.Native.Nat.{_+_, _^_, _<_};
+ghost use lib.IntN.{natAbs};
 ghost use lib.ListN.{length};
-ghost use Rattle.brinetoggle.specs.Reading.{StepWithin, InputWithin};
+ghost use Rattle.brinetoggle.specs.Reading.{turnOf, TurnWithin, InputWithin};
 
 // What reading gives: how many bytes stand at the front of the room, or that a read failed.
 pub enum Input {
@@ -10,43 +12,47 @@ pub enum Input {
     Failed,
 }
 
-// What one read gives.
-pub enum Step {
+// What one read gives: how many bytes there are with it, or how reading ends.
+pub enum Turn {
     More(usize),
-    End,
-    Failed,
+    Stop(Input),
 }
 
-// One read to the front of the room that is left.
-fn read_some(room: &mut [u8]) -> Step
-    requires { ⌜ 0 < length (now room) ⌝ }
-    ensures { λ r. ⌜ StepWithin (length (now (room .entry))) r ⌝ }
+// What the answer of a read means where `at` bytes were read before it.
+fn turn_of(got: isize, at: usize) -> Turn
+    requires { ⌜ at + natAbs got < 2 ^ 64 ⌝ }
+    ensures { λ r. ⌜ r ≡ turnOf got at ⌝ }
 {
-    let got = libc::read(STDIN_FILENO, room);
-    if 0 < got {
-        return Step::More(got as usize);
-    }
     if got < 0 {
-        return Step::Failed;
+        return Turn::Stop(Input::Failed);
     }
-    Step::End
+    if got < 1 {
+        return Turn::Stop(Input::Got(at));
+    }
+    Turn::More(at + (got as usize))
 }
 
-// Reads until the input ends or the room is full. Each turn reads behind what the turns before it read.
+// One read into the room behind the bytes that were read before it.
+fn read_more(room: &mut [u8], at: usize) -> Turn
+    requires { ⌜ at < length (now room) ⌝ }
+    ensures { λ r. ⌜ TurnWithin at (length (now (room .entry))) r ⌝ }
+{
+    let got = libc::read(STDIN_FILENO, &mut room[at..]);
+    turn_of(got, at)
+}
+
+// Reads until the input ends, a read fails or the room is full.
 pub fn read_input(room: &mut [u8]) -> Input
     ensures { λ r. ⌜ InputWithin (length (now (room .entry))) r ⌝ }
 {
     let mut at = 0;
     while at < room.len() {
-        match read_some(&mut room[at..]) {
-            Step::More(n) => {
-                at += n;
+        match read_more(room, at) {
+            Turn::More(n) => {
+                at = n;
             }
-            Step::End => {
-                return Input::Got(at);
-            }
-            Step::Failed => {
-                return Input::Failed;
+            Turn::Stop(input) => {
+                return input;
             }
         }
     }

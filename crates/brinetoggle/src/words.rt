@@ -13,7 +13,7 @@ pub enum Spot {
     Elements(usize, usize),
 }
 
-// The spot of a refusal, which its fault tells: JOIN and the faults from KIND on are of cutting, all others of reading.
+// The spot of a refusal, which its fault tells: KIND, SPARE, REPEAT and JOIN are of cutting, all others of reading.
 fn spot_of(refusal: Refusal) -> Spot
     ensures { λ r. ⌜ r ≡ spotOf refusal ⌝ }
 {
@@ -50,12 +50,14 @@ fn say_spot(spot: Spot) {
         Spot::Element(n) => {
             say(b"element ");
             say_number(n);
+            say(b" of the file");
         }
         Spot::Elements(j, i) => {
             say(b"elements ");
             say_number(j);
             say(b" and ");
             say_number(i);
+            say(b" of the file");
         }
     }
 }
@@ -64,9 +66,9 @@ fn say_spot(spot: Spot) {
 fn say_sentence(number: u32) {
     match number {
         0 => say(b"DONE: nothing is wrong"),
-        1 => say(b"LONG: the file has more than 65,536 bytes"),
+        1 => say(b"LONG: it has more than 65,536 bytes"),
         2 => say(
-            b"MARK: no line with this mark may stand here; expected VX lines, then TE, PY, PZ, PR or HX lines, then one EN line, the last",
+            b"MARK: no line with such a mark may stand here; expected VX lines, then TE, PY, PZ, PR or HX lines, then one EN line, the last",
         ),
         3 => say(
             b"SHAPE: wrong number of fields or wrong spacing; expected one space before each field, as many fields as the mark wants, and a line end",
@@ -77,7 +79,9 @@ fn say_sentence(number: u32) {
         ),
         6 => say(b"RANGE: a coordinate is beyond the limits; expected -500 to 500 millimetres"),
         7 => say(b"MANY: one line too many; expected at most 4,096 vertices and 1,024 elements"),
-        8 => say(b"VERTEX: a vertex number is 0 or above the number of VX lines"),
+        8 => say(
+            b"VERTEX: a vertex number is 0 or above the number of VX lines; expected 1 up to that number",
+        ),
         9 => say(b"ROOM: a table or buffer is too short"),
         10 => say(
             b"END: no EN line, or its counts are not those of the file; expected EN, the number of VX lines, the number of element lines",
@@ -88,7 +92,7 @@ fn say_sentence(number: u32) {
             b"REPEAT: a vertex stands twice in this element; expected another vertex at each corner",
         ),
         14 => say(
-            b"JOIN: these two elements do not fit; expected no common vertex, one, an edge of both, or a face of both that each sees from its own side",
+            b"JOIN: these two elements do not fit; expected no common vertex, one, an edge of both, or a whole face of both, one on each side of it",
         ),
         _ => {}
     }
