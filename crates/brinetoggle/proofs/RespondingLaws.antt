@@ -4,7 +4,6 @@ use mathlib.Core.Path.{_≡_, refl, sym, ap, _∙_}
 use mathlib.Core.List.{List}
 use native.Mathlib.Omega.{arith}
 use lib.ListN.{length, take}
-use Rattle.laws.specs.Lent.{laid}
 use Rattle.faults.specs.declared.Refusal as faults
 use Rattle.faults.specs.Refusals.{Verdict, accepted, refused}
 use Rattle.text.specs.Written.{refusalLine}

@@ -1,7 +1,7 @@
 -- The faults that reading gives, and where: a line's fault is none of KIND, SPARE, REPEAT and JOIN, and a line's number is not 0.
 -- Assumes nothing.
-use Prim.Native.Nat.{ℕ, zero, suc, _+_, _*_, _≤_, _<_}
-use mathlib.Core.Path.{_≡_, refl, sym, subst}
+use Prim.Native.Nat.{ℕ, _+_, _*_, _≤_, _<_}
+use mathlib.Core.Path.{_≡_, subst}
 use mathlib.Core.Bool.{Bool, true, false, cond, not}
 use mathlib.Core.List.{List, [], _∷_}
 use native.Mathlib.Omega.{arith}
@@ -17,7 +17,7 @@ use Rattle.faults.specs.Refusals.{Verdict, accepted, refused, numberOf, refuse}
 use Rattle.text.specs.Constants as text
 use Rattle.text.specs.Number.{cut, whole, decimals, millimetres, unsigned, coordinateOf}
 use Rattle.text.specs.Number as number
-use Rattle.text.specs.Line.{markOf, roleOf, wants, fieldsOf, judgeCoordinate, judgeCount, judgeVertex, fieldVerdict, first, fieldsVerdict, badMark, tooMany, badShape, noRoom, badCounts, after, given, judged, lineVerdict}
+use Rattle.text.specs.Line.{markOf, roleOf, wants, fieldsOf, judgeCoordinate, judgeCount, judgeVertex, fieldVerdict, first, fieldsVerdict, badMark, tooMany, badShape, noRoom, badCounts, given, judged, lineVerdict}
 use Rattle.text.specs.File.{start, linesOf, atEnd, onward, fileFrom, fileVerdict}
 use Rattle.text.specs.declared.terms.Role.{Role}
 use Rattle.text.specs.declared.terms.Role.the-variants.{VertexLine, ElementLine, EndLine, UnknownLine}

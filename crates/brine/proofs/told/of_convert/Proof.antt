@@ -6,33 +6,23 @@ use Rattle.brine.proofs.FrontLaws.{fewer}
 use borrow.Author.Needs.{needs}
 use Rattle.brine.proofs.told.of_convert.Statement.{statement}
 use Rattle.brine.proofs.told.of_convert.Tie as tie
-use Rattle.brine.proofs.told.of_convert.Reads as reads
-use Rattle.brine.proofs.told.of_convert.Lts as lts
-use Rattle.brine.proofs.told.done.Reads as done-reads
-use Rattle.brine.proofs.told.refused.Reads as refused-reads
 
--- src/told.rt:101:27
 enum-known-answer : tie.Need-enum-known-answer
 enum-known-answer c = search needs
 
--- src/told.rt:101:38
 done-requires : tie.Need-done-requires
 done-requires c κs = search needs
 
--- src/told.rt:102:30
 enum-known-answer-2 : tie.Need-enum-known-answer-2
 enum-known-answer-2 c = search needs
 
--- src/told.rt:102:42
 refused-requires : tie.Need-refused-requires
 refused-requires c κs = search needs
 
--- src/told.rt:97:1
 returns : tie.Need-returns
 unfolding answerOf convertVerdict
 returns c = fewer 1 (c .done .result) _ _ (ap convertVerdict (c .before .before .answer .given .1)) (search needs) refl refl (c .done .ensures)
 
--- src/told.rt:97:1
 returns-2 : tie.Need-returns-2
 unfolding answerOf convertVerdict
 returns-2 c = fewer 1 (c .refused .result) _ _ (ap convertVerdict (c .before .before .answer2 .given .1)) (search needs) refl refl (c .refused .ensures)
