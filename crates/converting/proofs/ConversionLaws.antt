@@ -1,8 +1,8 @@
 -- The conversion in the code's two steps: a file that was read is cut and written, and a table that was cut is written.
 -- Assumes nothing.
-use mathlib.Core.Path.{_≡_, refl, sym, ap, _∙_}
-use mathlib.Core.List.{List, [], _∷_}
-use Prim.Native.Nat.{ℕ, _*_, _≤_, _<_}
+use mathlib.Core.Path.{_≡_, refl}
+use mathlib.Core.List.{List}
+use Prim.Native.Nat.{ℕ, _*_, _≤_}
 use native.Mathlib.Omega.{arith}
 use lib.IntN.{ℤ}
 use lib.ListN.{length, take, length-take}
@@ -19,7 +19,7 @@ use Rattle.text.specs.Records.{storedVertices, storedElements}
 use Rattle.text.specs.Written.{inRoom}
 use Rattle.converting.specs.Conversion.{rooms, cutRoom, cutText, conversion}
 use Rattle.converting.specs.declared.ConvertAnswer.{ConvertAnswer}
-use Rattle.converting.specs.declared.ConvertAnswer.the-variants.{Done, Refused}
+use Rattle.converting.specs.declared.ConvertAnswer.the-variants.{Refused}
 use Rattle.converting.specs.Converting.{conversionInto, Left, ConvertDone}
 use Rattle.converting.specs.ConversionLoops.{meshText, GoodVertices, GoodTetrahedra, cutVerdict}
 use Rattle.converting.proofs.MeshTextLaws.{cut-text}

@@ -1,7 +1,7 @@
 -- Laws of the contract of converting: a refusal that leaves the output alone, and a text that is stored where there is room.
 -- Assumes nothing.
-use mathlib.Core.Path.{_≡_, refl, sym, ap, _∙_}
-use mathlib.Core.List.{List, [], _∷_}
+use mathlib.Core.Path.{_≡_, refl, sym}
+use mathlib.Core.List.{List}
 use Prim.Native.Nat.{ℕ, _≤_, _<_}
 use lib.ListN.{length, take}
 use borrow.Author.Tests.{lt-ltb, le-ltb}
@@ -11,7 +11,6 @@ use Rattle.faults.specs.Refusals.{Verdict, accepted, refused, refuse}
 use Rattle.faults.specs.declared.Refusal.{Refusal}
 use Rattle.faults.specs.declared.Fault.the-variants as fault
 use Rattle.text.specs.Written.{inRoom}
-use Rattle.converting.specs.declared.ConvertAnswer.{ConvertAnswer}
 use Rattle.converting.specs.declared.ConvertAnswer.the-variants.{Done, Refused}
 use Rattle.converting.specs.Converting.{convertVerdict, Left}
 use Rattle.converting.specs.ConversionLoops.{Put}

@@ -1,9 +1,9 @@
 -- What an accepted cut is: at most 6,144 tetrahedra of four different vertices between 1 and 4,096, each a record without a fault; and what a
 -- cut leaves in a table with room for every cut.
 -- Assumes nothing.
-use mathlib.Core.Path.{_≡_, refl, sym, ap, _∙_}
+use mathlib.Core.Path.{_≡_, refl, sym}
 use mathlib.Core.Bool.{Bool, true, false, _&&_}
-use mathlib.Core.List.{List, [], _∷_, _++_}
+use mathlib.Core.List.{List, [], _∷_}
 use Prim.Native.Nat.{ℕ, zero, suc, _*_, _≤_, _<_}
 use native.Mathlib.Omega.{arith}
 use lib.Dec.{T, ltb, leb, leb→le, le→leb}
@@ -35,7 +35,7 @@ use Rattle.mesh.proofs.AcceptedLaws.{no-bad-record}
 use Rattle.mesh.proofs.StoreLaws.{length-flat}
 use Rattle.mesh.proofs.Theorems.{accepted-elements, accepted-proper, accepted-tetrahedra}
 use Rattle.converting.specs.Conversion.{cutRoom, asRecord}
-use Rattle.converting.specs.ConversionLoops.{tetrahedronRecord, GoodTetrahedra}
+use Rattle.converting.specs.ConversionLoops.{GoodTetrahedra}
 use Rattle.converting.proofs.PutLaws.{take-laid}
 use Rattle.converting.proofs.MeshTextLaws.{noTet, tetrahedron-record}
 

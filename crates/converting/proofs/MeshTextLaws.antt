@@ -1,12 +1,12 @@
 -- The text of a cut mesh, record by record out of the two tables, is the page's text. Assumes nothing.
 use mathlib.Core.Path.{_≡_, refl, sym, ap, ap₂, _∙_}
 use mathlib.Core.List.{List, [], _∷_, _++_, append-nil, append-assoc}
-use Prim.Native.Nat.{ℕ, zero, suc, _+_, _*_, _≤_, _<_}
+use Prim.Native.Nat.{ℕ, zero, suc, _+_, _*_, _<_}
 use native.Mathlib.Nat.{add-zero, le-of-suc-le-suc, not-suc-le-zero, mul-zero, mul-suc, add-comm}
 use native.Mathlib.Omega.{arith}
 use lib.IntN.{ℤ, pos}
-use lib.ListN.{length, getD, take, drop, length-append}
-use lib.Seq.{getD-take, getD-drop, drop-drop, take-at, drop-at, drop-append-le}
+use lib.ListN.{length, getD, take, drop}
+use lib.Seq.{getD-take, getD-drop, drop-drop, take-at, drop-at}
 use Rattle.laws.specs.Words.{gather}
 use Rattle.laws.proofs.ListLaws.{gather-append}
 use Rattle.records.specs.Limits.{vertexWidth, tetrahedronWidth}

@@ -1,9 +1,9 @@
 -- The place and the second number of a refused conversion are small: no line is beyond the file's bytes, no element beyond the limit.
 -- Assumes nothing.
-use mathlib.Core.Path.{_≡_, refl, sym, ap, _∙_}
+use mathlib.Core.Path.{_≡_, refl, ap}
 use mathlib.Core.Bool.{Bool, true, false, cond}
 use mathlib.Core.List.{List, [], _∷_}
-use Prim.Native.Nat.{ℕ, zero, suc, pred, _+_, _*_, _≤_, _<_, zero-le}
+use Prim.Native.Nat.{ℕ, zero, suc, pred, _+_, _*_, _≤_, zero-le}
 use native.Mathlib.Nat.{le-refl}
 use native.Mathlib.Omega.{arith}
 use borrow.Author.Tests.{ltb-false}
@@ -14,22 +14,20 @@ use Rattle.laws.specs.Searches.{least}
 use Rattle.faults.specs.declared.Fault.the-variants as fault
 use Rattle.faults.specs.declared.Refusal.{Refusal}
 use Rattle.faults.specs.Refusals.{Verdict, accepted, refused, refuse, refusePair, refuseIf, andThen}
-use Rattle.records.specs.Limits.{elementLimit}
 use Rattle.records.specs.Record.{width, recordFinding, recordAt, firstElements}
-use Rattle.solids.specs.Solids.{Element}
 use Rattle.solids.specs.Cut.{cutMesh}
 use Rattle.mesh.specs.Judge.{mostVertices, mostElements, faultIn, badRecord, badElement, misfit, judged}
 use Rattle.mesh.specs.Cutting.{tetWidth, cutOf}
 use Rattle.text.specs.Constants.{lineEnd, fileLimit}
 use Rattle.text.specs.Line.{lineVerdict}
 use Rattle.text.specs.File.{start, linesOf, atEnd, onward, fileFrom, fileVerdict}
-use Rattle.text.specs.Records.{storedVertices, storedElements}
+use Rattle.text.specs.Records.{storedElements}
 use Rattle.text.specs.declared.terms.ReaderState.{ReaderState}
 use Rattle.text.specs.declared.terms.Rooms.{Rooms}
 use Rattle.text.specs.declared.terms.Line.{Line}
 use Rattle.text.specs.declared.terms.Line.the-variants.{Next, No}
 use Rattle.text.proofs.AcceptedLaws.{file-fits}
-use Rattle.converting.specs.Conversion.{rooms, cutRoom, cutText, conversion}
+use Rattle.converting.specs.Conversion.{rooms, cutRoom, conversion}
 
 -- both numbers are at most m
 pub record Near (m : ℕ) (r : Refusal) : Type 0 where

@@ -1,13 +1,12 @@
 -- How long the text of a conversion is at most. Assumes nothing.
-use mathlib.Core.Path.{_≡_, refl, sym, _∙_}
-use mathlib.Core.List.{List, [], _∷_, _++_}
+use mathlib.Core.Path.{_≡_, refl}
+use mathlib.Core.List.{List, _++_}
 use Prim.Native.Nat.{ℕ, zero, suc, _+_, _*_, _≤_, _<_, zero-le}
 use native.Mathlib.Nat.{mul-suc}
 use native.Mathlib.Omega.{arith}
 use lib.IntN.{ℤ}
 use lib.ListN.{length, getD, length-append}
 use Rattle.faults.specs.Refusals.{Verdict, accepted, refused, andThen}
-use Rattle.records.specs.Limits.{vertexLimit, tetrahedronLimit}
 use Rattle.records.specs.Record.{kindOf}
 use Rattle.solids.specs.Solids.{Vertex, Tet}
 use Rattle.mesh.specs.Cutting.{flat, cutOf}
@@ -20,7 +19,7 @@ use Rattle.converting.specs.Converting.{longestVertex, longestTetrahedro
 use Rattle.converting.specs.ConversionLoops.{vertexText, tetrahedronRecord, tetrahedronText, textTo, meshText, GoodVertices, GoodTetrahedra}
 use Rattle.converting.proofs.MeshTextLaws.{cut-text}
 use Rattle.converting.proofs.TableLaws.{vertices-below, vertex-short}
-use Rattle.converting.proofs.CutLaws.{cut-few, cut-tetrahedra}
+use Rattle.converting.proofs.CutLaws.{cut-tetrahedra}
 use Rattle.converting.proofs.ReadingLaws.{file-good}
 
 -- texts of at most so many bytes each

@@ -1,5 +1,5 @@
 -- What the private functions of converting say: the text of a cut mesh, record by record, out of the two tables.
--- proofs/ConversionLaws.antt says that it is the page's text.
+-- proofs/MeshTextLaws.antt says that it is the page's text.
 use Prim.Native.Nat.{ℕ, zero, suc, _+_, _*_, _≤_, _<_}
 use mathlib.Core.Path.{_≡_}
 use mathlib.Core.List.{List, [], _∷_, _++_}

@@ -2,6 +2,8 @@
 // The program only reads its input, calls `convert` and, where that refuses, `text::write::write_refusal`, and writes.
 mod output;
 
+use crate::output::TETRAHEDRON;
+use crate::output::VERTEX;
 use crate::output::put_mesh;
 use crate::output::store;
 use faults::Fault;
@@ -10,9 +12,7 @@ use mesh::CutAnswer;
 use mesh::cut_mesh;
 use text::ReadAnswer;
 use text::read_mesh;
-ghost use mathlib.Core.Path.{_≡_};
 ghost use lib.ListN.{length};
-ghost use Rattle.faults.specs.Refusals.{accepted};
 ghost use Rattle.text.specs.Written.{inRoom};
 ghost use Rattle.converting.specs.Converting.{ConvertDone, Left};
 ghost use Rattle.converting.specs.ConversionLoops.{meshText, GoodVertices, GoodTetrahedra, cutVerdict};
@@ -24,21 +24,17 @@ pub enum ConvertAnswer {
 }
 
 // How long the text of a conversion is at most: 4,096 vertex lines of 30 bytes, 6,144 lines of tetrahedra of 23, EN of 13.
-pub const LONGEST_OUTPUT: usize = 264205;
+pub const LONGEST_OUTPUT: usize = 30 * 4096 + 23 * 6144 + 13;
 
-// Tables with room for every file and for every cut.
-const VERTEX_ROOM: usize = 12288;
-
-const ELEMENT_ROOM: usize = 9216;
-
-const CUT_ROOM: usize = 24576;
-
-// How many numbers a vertex, an element and a tetrahedron have.
-const VERTEX: usize = 3;
-
+// How many numbers an element has.
 const ELEMENT: usize = 9;
 
-const TETRAHEDRON: usize = 4;
+// Tables with room for every file, 4,096 vertices and 1,024 elements, and for every cut, 6,144 tetrahedra.
+const VERTEX_ROOM: usize = VERTEX * 4096;
+
+const ELEMENT_ROOM: usize = ELEMENT * 1024;
+
+const CUT_ROOM: usize = TETRAHEDRON * 6144;
 
 // The cut mesh as text: made whole before a byte of it is stored, so that ROOM stores nothing.
 fn write_cut(

@@ -4,7 +4,7 @@ use text::write::write_element;
 use text::write::write_end;
 use text::write::write_vertex;
 ghost use mathlib.Core.Path.{_≡_};
-ghost use Prim.Native.Nat.{_+_, _*_, _≤_, _<_};
+ghost use Prim.Native.Nat.{_+_, _*_, _≤_};
 ghost use lib.ListN.{length};
 ghost use Rattle.laws.specs.Lent.{laid};
 ghost use Rattle.records.specs.Limits.{vertexLimit, tetrahedronLimit};
@@ -13,9 +13,9 @@ ghost use Rattle.converting.specs.Converting.{longestOutput, longestVert
 ghost use Rattle.converting.specs.ConversionLoops.{Put, lengthIn, vertexText, tetrahedronText, textTo, meshText, GoodVertices, GoodTetrahedra};
 
 // How many numbers a vertex and a tetrahedron have.
-const VERTEX: usize = 3;
+pub const VERTEX: usize = 3;
 
-const TETRAHEDRON: usize = 4;
+pub const TETRAHEDRON: usize = 4;
 
 // The length of what was written.
 fn length_in(answer: WriteAnswer) -> usize

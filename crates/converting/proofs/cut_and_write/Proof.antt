@@ -1,11 +1,10 @@
 -- `converting::cut_and_write` cuts a table that was read, and writes the cut mesh or the refusal. Assumes nothing.
 use Prim.Native.Nat.{ℕ}
-use native.Mathlib.Omega.{arith}
 use borrow.Author.Needs.{needs}
 use denote.Ref.{now}
 use lib.ListN.{length-replicate}
 use Rattle.converting.proofs.ConversionLaws.{cutting-refused, cutting-fits, cutting-room, cutting-good, cutting-written}
-use Rattle.converting.proofs.CutLaws.{Stored, cut-stored, cut-refusal}
+use Rattle.converting.proofs.CutLaws.{cut-stored, cut-refusal}
 use Rattle.converting.proofs.cut_and_write.Statement.{statement}
 use Rattle.converting.proofs.cut_and_write.Tie as tie
 

@@ -4,61 +4,43 @@ use denote.Ref.{now}
 use Rattle.converting.proofs.PutLaws.{mesh-put}
 use Rattle.converting.proofs.output.put_mesh.Statement.{statement}
 use Rattle.converting.proofs.output.put_mesh.Tie as tie
-use Rattle.converting.proofs.output.put_mesh.Reads as reads
-use Rattle.converting.proofs.output.put_mesh.Lts as lts
-use Rattle.converting.proofs.output.put_end.Reads as put-end-reads
-use Rattle.converting.proofs.output.put_tetrahedra.Reads as put-tetrahedra-reads
-use Rattle.converting.proofs.output.put_vertices.Reads as put-vertices-reads
 
--- src/output.rt:112:9
 put-vertices-requires : tie.Need-put-vertices-requires
 put-vertices-requires c κs = search needs
 
--- src/output.rt:113:52
 sub-put-tetrahedra : tie.Need-sub-put-tetrahedra
 sub-put-tetrahedra c = search needs
 
--- src/output.rt:113:52
 part-put-tetrahedra-start : tie.Need-part-put-tetrahedra-start
 part-put-tetrahedra-start c = search needs
 
--- src/output.rt:113:52
 part-put-tetrahedra-end : tie.Need-part-put-tetrahedra-end
 part-put-tetrahedra-end c = search needs
 
--- src/output.rt:113:9
 put-tetrahedra-requires : tie.Need-put-tetrahedra-requires
 put-tetrahedra-requires c κs = search needs
 
--- src/output.rt:114:14
 add-at : tie.Need-add-at
 add-at c = search needs
 
--- src/output.rt:115:46
 sub-put-end : tie.Need-sub-put-end
 sub-put-end c = search needs
 
--- src/output.rt:115:46
 part-put-end-start : tie.Need-part-put-end-start
 part-put-end-start c = search needs
 
--- src/output.rt:115:46
 part-put-end-end : tie.Need-part-put-end-end
 part-put-end-end c = search needs
 
--- src/output.rt:115:9
 put-end-requires : tie.Need-put-end-requires
 put-end-requires c κs = search needs
 
--- src/output.rt:116:5
 add-result : tie.Need-add-result
 add-result c = search needs
 
--- src/output.rt:100:1
 same-length : tie.Need-same-length
 same-length c = search needs
 
--- src/output.rt:100:1
 returns : tie.Need-returns
 returns c =
     let s = c .before .before .before .before .before .before .before .before .before .before .before .before .before .before in

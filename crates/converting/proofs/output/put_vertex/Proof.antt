@@ -5,60 +5,43 @@ use denote.Ref.{now}
 use Rattle.converting.proofs.TableLaws.{vertex-put}
 use Rattle.converting.proofs.output.put_vertex.Statement.{statement}
 use Rattle.converting.proofs.output.put_vertex.Tie as tie
-use Rattle.converting.proofs.output.put_vertex.Reads as reads
-use Rattle.converting.proofs.output.put_vertex.Lts as lts
-use Rattle.converting.proofs.output.length_in.Reads as length-in-reads
-use Rattle.text.proofs.write.write_vertex.Reads as write-vertex-reads
 
--- src/output.rt:36:14
 mul-at : tie.Need-mul-at
 mul-at c = search needs
 
--- src/output.rt:37:13
 mul-x : tie.Need-mul-x
 mul-x c = search needs
 
--- src/output.rt:37:13
 shared-slice-copy-out-x : tie.Need-shared-slice-copy-out-x
 shared-slice-copy-out-x c = search needs
 
--- src/output.rt:38:22
 add-y : tie.Need-add-y
 add-y c = search needs
 
--- src/output.rt:38:13
 mul-y : tie.Need-mul-y
 mul-y c = search needs
 
--- src/output.rt:38:13
 shared-slice-copy-out-y : tie.Need-shared-slice-copy-out-y
 shared-slice-copy-out-y c = search needs
 
--- src/output.rt:39:22
 add-z : tie.Need-add-z
 add-z c = search needs
 
--- src/output.rt:39:13
 mul-z : tie.Need-mul-z
 mul-z c = search needs
 
--- src/output.rt:39:13
 shared-slice-copy-out-z : tie.Need-shared-slice-copy-out-z
 shared-slice-copy-out-z c = search needs
 
--- src/output.rt:40:15
 write-vertex-requires : tie.Need-write-vertex-requires
 write-vertex-requires c κs = search needs
 
--- src/output.rt:40:5
 length-in-requires : tie.Need-length-in-requires
 length-in-requires c κs = search needs
 
--- src/output.rt:31:1
 same-length : tie.Need-same-length
 same-length c = search needs
 
--- src/output.rt:31:1
 returns : tie.Need-returns
 returns c =
     let s = c .before .before .before .before .before .before .before .before .before in
