@@ -1,0 +1,76 @@
+-- What the program promises, as far as it can be said of memory. A reader starts here.
+--   first-bytes-enough   what it reads of a file, 65,537 bytes at most, tells its output for the whole file
+--   response-right       what it has to write is what the page says for the whole file
+--   response-unique      two responses to one input have the same bytes to write, and the same verdict
+--   read-spot            where reading refused, the words name the line of the refusal, or the file where it is too long
+--   cut-spot             where cutting refused a file that reading accepted, they name the element, or both elements of JOIN
+-- Assumes nothing.
+use Prim.Native.Nat.{ℕ, _<_}
+use mathlib.Core.Path.{_≡_, refl, sym, ap, _∙_}
+use mathlib.Core.Bool.{Bool, true, false, cond}
+use mathlib.Core.List.{List}
+use native.Mathlib.Omega.{arith}
+use borrow.Author.Tests.{lt-ltb, ltb-true, ltb-false}
+use lib.Dec.{eqb, ltb}
+use lib.ListN.{length, take}
+use lib.Seq.{take-all, length-take-le}
+use Rattle.faults.specs.declared.Fault.the-variants as fault
+use Rattle.faults.specs.declared.Refusal.{Refusal}
+use Rattle.faults.specs.Refusals.{accepted, refused, refuse, numberOf}
+use Rattle.text.specs.Constants.{fileLimit}
+use Rattle.text.specs.File.{fileVerdict}
+use Rattle.text.specs.declared.terms.Rooms.{Rooms}
+use Rattle.converting.specs.Conversion.{rooms, conversion, programOutput}
+use Rattle.brinetoggle.specs.Reading.{inputRoom}
+use Rattle.brinetoggle.specs.Words.{spotOf}
+use Rattle.brinetoggle.specs.declared.words.Spot.the-variants.{File, Line, Element, Elements}
+use Rattle.brinetoggle.specs.Responding.{lengthOf, verdictIn, Responded}
+use Rattle.brinetoggle.specs.declared.responding.Response.{Response}
+use Rattle.brinetoggle.proofs.SpotLaws as SpotLaws
+use Rattle.brinetoggle.proofs.CutSpotLaws as CutSpotLaws
+
+-- ---- the first 65,537 bytes are enough
+
+-- a file above the limit is LONG, whatever stands in it
+long-output : (file : List ℕ) → fileLimit < length file → conversion file ≡ refused (refuse fault.Long 0)
+unfolding conversion fileVerdict
+long-output file l = rw (lt-ltb fileLimit (length file) l)
+
+pub first-bytes-enough : (file : List ℕ) → programOutput (take inputRoom file) ≡ programOutput file
+unfolding programOutput
+first-bytes-enough file = go (ltb inputRoom (length file)) refl
+  where
+    go : (b : Bool) → ltb inputRoom (length file) ≡ b → programOutput (take inputRoom file) ≡ programOutput file
+    go true e =
+        let l : inputRoom < length file = ltb-true inputRoom (length file) e in
+        let n : length (take inputRoom file) ≡ inputRoom = length-take-le inputRoom file (omega arith) in
+        rw (long-output (take inputRoom file) (omega arith), long-output file (omega arith))
+    go false e = ap programOutput (take-all inputRoom file (ltb-false inputRoom (length file) e))
+
+-- ---- what is written
+
+-- the program reads the first bytes of the file, and responds to them
+pub response-right : (file : List ℕ) (r : Response) (output : List ℕ) → Responded (take inputRoom file) r output
+    → take (lengthOf r) output ≡ programOutput file
+response-right file r output h = h .bytes ∙ first-bytes-enough file
+
+module _ (input : List ℕ) (r r′ : Response) (output output′ : List ℕ) where
+  -- what is written, and what is said of it
+  pub record Same : Type 0 where
+    pub bytes : take (lengthOf r) output ≡ take (lengthOf r′) output′
+    pub verdict : verdictIn r output ≡ verdictIn r′ output′
+
+  pub response-unique : Responded input r output → Responded input r′ output′ → Same
+  response-unique h g = record { bytes = h .bytes ∙ sym (g .bytes); verdict = h .verdict ∙ sym (g .verdict) }
+
+-- ---- where a refusal lies, in the words of the program
+
+-- where reading refused: the file itself where it is too long, else the line that the refusal names
+pub read-spot : (rooms : Rooms) (file : List ℕ) (r : Refusal) → fileVerdict rooms file ≡ refused r
+    → spotOf r ≡ cond (ltb fileLimit (length file)) File (Line (r .place))
+read-spot = SpotLaws.read-spot
+
+-- where cutting refused what reading accepted: both elements of JOIN, else the element that the refusal names
+pub cut-spot : (input counts : List ℕ) (r : Refusal) → fileVerdict rooms input ≡ accepted counts → conversion input ≡ refused r
+    → spotOf r ≡ cond (eqb (numberOf (r .fault)) 14) (Elements (r .place) (r .second)) (Element (r .place))
+cut-spot = CutSpotLaws.cut-spot

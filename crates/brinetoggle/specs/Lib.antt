@@ -1,0 +1,4 @@
+-- What the program says of its input, its output and a refusal.
+pub mod Reading
+pub mod Responding
+pub mod Words
