@@ -3,7 +3,7 @@
 use Prim.Native.Nat.{ℕ, zero, suc, _+_, _-_, _/_, _%_, _^_, _≤_, _<_}
 use native.Mathlib.Nat.{le-refl, pow-suc, div-lt-iff-lt-mul}
 use native.Mathlib.Omega.{arith}
-use mathlib.Core.Path.{_≡_, refl, ap}
+use mathlib.Core.Path.{_≡_, refl, sym, ap, _∙_}
 use mathlib.Core.Bool.{Bool, true, false, cond}
 use mathlib.Core.List.{List, [], _∷_, _++_}
 use lib.Dec.{ltb}
@@ -22,10 +22,13 @@ unfolding digitsOf
 one-digit zero k n h = absurd (n refl)
 one-digit (suc f) k n h = rw (lt-ltb k 10 h)
 
-pub more-digits : (f k : ℕ) → (f ≡ 0 → ⊥) → 10 ≤ k → digitsOf f k ≡ digitsOf (f - 1) (k / 10) ++ (digit (k % 10) ∷ [])
+last-digit : (f k : ℕ) → 10 ≤ k → digitsOf (suc f) k ≡ digitsOf f (k / 10) ++ (digit (k % 10) ∷ [])
 unfolding digitsOf
+last-digit f k h = rw (le-ltb k 10 h)
+
+pub more-digits : (f k : ℕ) → (f ≡ 0 → ⊥) → 10 ≤ k → digitsOf f k ≡ digitsOf (f - 1) (k / 10) ++ (digit (k % 10) ∷ [])
 more-digits zero k n h = absurd (n refl)
-more-digits (suc f) k n h = let e : suc f - 1 ≡ f = omega arith in rw (le-ltb k 10 h, e)
+more-digits (suc f) k n h = let e : suc f - 1 ≡ f = omega arith in rw e (last-digit f k h)
 
 -- ---- how many digits
 
@@ -72,3 +75,18 @@ module _ (f k : ℕ) (h : k < 10 ^ suc f) where
 
   pub decimal-short : length (decimal k) ≤ suc f
   decimal-short = rw decimal-digits (digits-short (suc f) k)
+
+-- ---- a number in decimal by its last digit
+
+pub decimal-one : (k : ℕ) → k < 10 → decimal k ≡ digit k ∷ []
+unfolding decimal
+decimal-one k h = one-digit (suc k) k (λ e. omega arith) h
+
+pub decimal-more : (k : ℕ) → 10 ≤ k → decimal k ≡ decimal (k / 10) ++ (digit (k % 10) ∷ [])
+decimal-more k h =
+    let p = pow-above k in
+    let a : k < 10 ^ suc (suc k) = rw pow-suc (omega arith) in
+    let b : k / 10 < 10 ^ suc k = omega arith in
+    decimal-digits (suc k) k a
+    ∙ last-digit (suc k) k h
+    ∙ ap (λ (ds : List ℕ). ds ++ (digit (k % 10) ∷ [])) (sym (decimal-digits k (k / 10) b))

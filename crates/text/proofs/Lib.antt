@@ -1,5 +1,5 @@
 pub mod DecimalLaws
-pub mod TextLaws
+pub mod PutLaws
 pub mod WrittenLaws
 pub mod WriteLaws
 pub mod WriteTheorems

@@ -5,7 +5,7 @@ use mathlib.Core.Path.{_≡_, refl, sym}
 use mathlib.Core.Bool.{true, false, _&&_}
 use mathlib.Core.List.{List}
 use lib.IntN.{ℤ}
-use lib.ListN.{length}
+use lib.ListN.{length, take}
 use borrow.Author.Tests.{lt-ltb, le-ltb}
 use Rattle.laws.specs.Lent.{laid}
 use Rattle.laws.proofs.LentLaws.{laid-none}
@@ -19,11 +19,10 @@ use Rattle.records.specs.Record.{recordFinding}
 use Rattle.text.specs.Constants.{vertexLimit, tetrahedronLimit}
 use Rattle.text.specs.Written.{closed, vertexLine, elementLine, endLine, inRoom, writeVertexVerdict, writeElementVerdict, writeEndVerdict}
 use Rattle.text.specs.Writing.{writeVerdict, WriteDone}
-use Rattle.text.specs.WriteLoops.{capacity, heldIn, Holds}
+use Rattle.text.specs.WriteLoops.{Put}
 use Rattle.text.specs.declared.write.WriteAnswer.{WriteAnswer}
 use Rattle.text.specs.declared.write.WriteAnswer.the-variants.{Done, Refused}
-use Rattle.text.specs.declared.written.Text.{Text}
-use Rattle.text.proofs.TextLaws.{holds-whole}
+use Rattle.text.proofs.PutLaws.{front-laid, front-length, front-line}
 
 -- ---- what meets the contract
 
@@ -49,10 +48,18 @@ pub stored-done : (text old : List ℕ) (n : ℕ) {new : List ℕ} → n ≡ len
 unfolding inRoom
 stored-done text old n e h f = rw (le-ltb (length old) (length text) h, e, f) (accepted-done text old)
 
--- the line that a text holds is stored as the text is
-pub line-done : {v : Verdict (List ℕ)} {l old new : List ℕ} {t : Text} {a : WriteAnswer} → v ≡ inRoom (length old) l → Holds l t
-    → length l ≤ capacity → WriteDone (inRoom (length old) (heldIn t)) old a new → WriteDone v old a new
-line-done e h s w = rw (e, ← holds-whole h s) w
+-- one verdict for another
+pub same-done : {v w : Verdict (List ℕ)} {old new : List ℕ} {a : WriteAnswer} → v ≡ w → WriteDone w old a new → WriteDone v old a new
+same-done e w = rw e w
+
+-- a line put straight into the buffer
+pub put-done : {l old new : List ℕ} {r : ℕ} → Put old 0 l new r → length l ≤ length old → WriteDone (inRoom (length old) l) old (Done r) new
+put-done {l} {old} {new} {r} h s = stored-done l old r (front-length h s) s (front-laid h s)
+
+-- a line put into one of its own, and stored from there
+pub copied-done : {v : Verdict (List ℕ)} {l empty line old new : List ℕ} {n : ℕ} {a : WriteAnswer} → v ≡ inRoom (length old) l → Put empty 0 l line n
+    → length l ≤ length empty → WriteDone (inRoom (length old) (take n line)) old a new → WriteDone v old a new
+copied-done e h s w = rw (e, ← front-line h s) w
 
 -- ---- the verdicts
 

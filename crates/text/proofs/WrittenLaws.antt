@@ -30,12 +30,11 @@ use Rattle.records.proofs.RecordLaws.{clean-faultless, clean-whole, used-length
 use Rattle.text.specs.Constants.{lineEnd, space, minus, point, vertexLimit, tetrahedronLimit}
 use Rattle.text.specs.Line.{markBytes}
 use Rattle.text.specs.Written.{digit, decimal, signOf, millimetresOf, coordinateText, lineWith, closed, vertexLine, markOfKind, elementLine, endLine, refusalLine}
-use Rattle.text.specs.WriteLoops.{Holds, Added}
+use Rattle.text.specs.WriteLoops.{Put}
 use Rattle.text.specs.declared.terms.Mark.{Mark}
 use Rattle.text.specs.declared.terms.Mark.the-variants.{Vx, Te, Py, Pz, Pr, Hx, En, Unknown}
-use Rattle.text.specs.declared.written.Text.{Text}
-use Rattle.text.proofs.DecimalLaws.{decimal-short}
-use Rattle.text.proofs.TextLaws.{holds-more, added-two}
+use Rattle.text.proofs.DecimalLaws.{decimal-one, decimal-more, decimal-short}
+use Rattle.text.proofs.PutLaws.{put-two}
 
 -- ---- a sign
 
@@ -49,36 +48,51 @@ unfolding signOf
 no-sign (pos n) h = refl
 no-sign (negsuc n) h = let z : _≡_ {A = ℕ} 0 1 = cc in let q : ⊥ = omega arith in absurd q
 
+-- ---- a number by its last digit
+
+module _ {old new : List ℕ} {at r : ℕ} (k : ℕ) where
+  pub put-one-digit : k < 10 → Put old at (digit k ∷ []) new r → Put old at (decimal k) new r
+  put-one-digit h p = rw (decimal-one k h) p
+
+  pub put-last-digit : {mid : List ℕ} {n x : ℕ} → 10 ≤ k → Put old at (decimal (k / 10)) mid n → Put mid n (x ∷ []) new r → x ≡ digit (k % 10)
+      → Put old at (decimal k) new r
+  put-last-digit h p q e = rw (decimal-more k h, ← e) (put-two p q)
+
 -- ---- whole millimetres, a point and three decimals
 
-pub millimetres-put : (m : ℕ) {t a b c d r : Text} {x y z : ℕ}
-    → Added t (decimal (m / 1000)) a → Added a (point ∷ []) b → Added b (x ∷ []) c → Added c (y ∷ []) d → Added d (z ∷ []) r
-    → x ≡ digit (m / 100 % 10) → y ≡ digit (m / 10 % 10) → z ≡ digit (m % 10) → Added t (millimetresOf m) r
+pub millimetres-put : (m : ℕ) {old l₁ l₂ l₃ l₄ new : List ℕ} {at n₁ n₂ n₃ n₄ r x y z : ℕ}
+    → Put old at (decimal (m / 1000)) l₁ n₁ → Put l₁ n₁ (point ∷ []) l₂ n₂ → Put l₂ n₂ (x ∷ []) l₃ n₃ → Put l₃ n₃ (y ∷ []) l₄ n₄ → Put l₄ n₄ (z ∷ []) new r
+    → x ≡ digit (m / 100 % 10) → y ≡ digit (m / 10 % 10) → z ≡ digit (m % 10) → Put old at (millimetresOf m) new r
 unfolding millimetresOf
-millimetres-put m ha hb hc hd hr ex ey ez =
-    rw (← ex, ← ey, ← ez) (added-two ha (added-two hb (added-two hc (added-two hd hr))))
+millimetres-put m h₁ h₂ h₃ h₄ h₅ ex ey ez =
+    rw (← ex, ← ey, ← ez) (put-two h₁ (put-two h₂ (put-two h₃ (put-two h₄ h₅))))
 
 -- ---- a line, field by field
 
-module _ (mark : List ℕ) {t r : Text} where
-  -- the mark alone
-  pub line-start : Holds [] t → Added t mark r → Holds (lineWith mark []) r
-  unfolding lineWith
-  line-start h k = rw (append-nil mark) (holds-more h k)
+-- a field more
+fields-more : (fields : List (List ℕ)) (f : List ℕ) {old mid new : List ℕ} {at n r : ℕ} → Put old at (gather (λ (g : List ℕ). space ∷ g) fields) mid n
+    → Put mid n (space ∷ f) new r → Put old at (gather (λ (g : List ℕ). space ∷ g) (fields ++ (f ∷ []))) new r
+fields-more fields f h k = rw (gather-append (λ (g : List ℕ). space ∷ g) fields (f ∷ []), append-nil (space ∷ f)) (put-two h k)
 
-  -- a field more
-  pub line-field : (fields : List (List ℕ)) (f : List ℕ) → Holds (lineWith mark fields) t → Added t (space ∷ f) r
-      → Holds (lineWith mark (fields ++ (f ∷ []))) r
+module _ (mark : List ℕ) {old new : List ℕ} {r : ℕ} where
+  -- the mark alone
+  pub line-start : Put old 0 mark new r → Put old 0 (lineWith mark []) new r
+  unfolding lineWith
+  line-start h = rw (append-nil mark) h
+
+  -- a line with a field more
+  pub line-field : (fields : List (List ℕ)) (f : List ℕ) {mid : List ℕ} {n : ℕ} → Put old 0 (lineWith mark fields) mid n → Put mid n (space ∷ f) new r
+      → Put old 0 (lineWith mark (fields ++ (f ∷ []))) new r
   unfolding lineWith
   line-field fields f h k =
       rw (gather-append (λ (g : List ℕ). space ∷ g) fields (f ∷ []), append-nil (space ∷ f), ← append-assoc mark (gather (λ (g : List ℕ). space ∷ g) fields) (space ∷ f))
-      (holds-more h k)
+      (put-two h k)
 
 -- ---- the line of an element, corner by corner
 
--- the mark and the first p vertex numbers
+-- the first p vertex numbers, each preceded by a space
 abbrev pub elementPart : List ℕ → ℕ → List ℕ
-elementPart r p = lineWith (markBytes (markOfKind (kindOf r))) (map decimal (take p (usedOf r)))
+elementPart r p = gather (λ (f : List ℕ). space ∷ f) (map decimal (take p (usedOf r)))
 
 module _ (r : List ℕ) (clean : recordFinding vertexLimit r ≡ Clean) where
   pub kind-of-clean : kindOf r ≤ 8
@@ -87,16 +101,18 @@ module _ (r : List ℕ) (clean : recordFinding vertexLimit r ≡ Clean) where
   corner-count : length (usedOf r) ≡ kindOf r
   corner-count = used-length r (clean-whole vertexLimit r clean)
 
-  pub element-corner : (p v : ℕ) {t u : Text} → p < kindOf r → v ≡ cornerAt r (p + 1) → Holds (elementPart r p) t → Added t (space ∷ decimal v) u
-      → Holds (elementPart r (p + 1)) u
-  element-corner p v {t} {u} l e h k =
+  pub element-corner : (p v : ℕ) {old mid new : List ℕ} {at n s : ℕ} → p < kindOf r → v ≡ cornerAt r (p + 1)
+      → Put old at (elementPart r p) mid n → Put mid n (space ∷ decimal v) new s → Put old at (elementPart r (p + 1)) new s
+  element-corner p v l e h k =
       let s : v ≡ getD (usedOf r) p 0 = e ∙ rw (add-one p) (corner-used r (suc p) (omega arith)) in
       rw (add-one p, take-suc (usedOf r) p 0 (rw corner-count l), map-append decimal (take p (usedOf r)) (getD (usedOf r) p 0 ∷ []), ← s)
-      (line-field (markBytes (markOfKind (kindOf r))) (map decimal (take p (usedOf r))) (decimal v) h k)
+      (fields-more (map decimal (take p (usedOf r))) (decimal v) h k)
 
-  pub element-closed : (p : ℕ) {t u : Text} → kindOf r ≤ p → Holds (elementPart r p) t → Added t (lineEnd ∷ []) u → Holds (closed (elementLine r)) u
-  unfolding elementLine
-  element-closed p l h k = holds-more (rw (take-all p (usedOf r) (rw corner-count l)) at h) k
+  pub element-closed : (p : ℕ) {old marked numbered new : List ℕ} {n m s : ℕ} → kindOf r ≤ p
+      → Put old 0 (markBytes (markOfKind (kindOf r))) marked n → Put marked n (elementPart r p) numbered m → Put numbered m (lineEnd ∷ []) new s
+      → Put old 0 (closed (elementLine r)) new s
+  unfolding elementLine lineWith
+  element-closed p l f h k = put-two (put-two f (rw (take-all p (usedOf r) (rw corner-count l)) at h)) k
 
 -- ---- how long a line is
 

@@ -1,25 +1,16 @@
--- What the private functions of writing say: a text by value, and bytes put after it. No promise of the room speaks of them;
--- proofs/TextLaws.antt says that a text holds a line whole, where the line is no longer than a text has room for.
-use Prim.Native.Nat.{ℕ, _≤_}
+-- What the private functions of writing say: bytes put into a lent line. No promise of the room speaks of them;
+-- proofs/PutLaws.antt says that a line put from the front, where there is room, is laid into the lent memory.
+use Prim.Native.Nat.{ℕ, _+_, _≤_}
 use mathlib.Core.Path.{_≡_}
-use mathlib.Core.List.{List, _++_}
-use lib.ListN.{take}
-use Rattle.text.specs.declared.written.Text.{Text}
+use mathlib.Core.List.{List}
+use lib.ListN.{length}
+use Rattle.laws.specs.Lent.{placed}
 
--- how many bytes a text has room for
+-- how long a line is at most
 abbrev pub capacity : ℕ
 capacity = 48
 
--- the bytes that a text holds
-unfoldable pub heldIn : Text → List ℕ
-heldIn t = take (t .count) (t .bytes)
-
--- r holds l, as far as there is room
-pub record Holds (l : List ℕ) (r : Text) : Type 0 where
-  pub held : heldIn r ≡ take capacity l
-  pub short : r .count ≤ capacity
-
--- r holds what t holds and l after it, as far as there is room
-pub record Added (t : Text) (l : List ℕ) (r : Text) : Type 0 where
-  pub held : heldIn r ≡ take capacity (heldIn t ++ l)
-  pub short : t .count ≤ capacity → r .count ≤ capacity
+-- where there is room for l from `at` on: l stands there, all else is as it was, and r is the index behind it
+pub record Put (old : List ℕ) (at : ℕ) (l new : List ℕ) (r : ℕ) : Type 0 where
+  pub line : at + length l ≤ length old → new ≡ placed old at l
+  pub next : at + length l ≤ length old → r ≡ at + length l

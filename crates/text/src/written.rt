@@ -1,4 +1,5 @@
-// The lines that are written. Each is made as a text by value, so that a line is whole before a byte of it is stored.
+// The lines that are written, byte by byte into lent memory from an index on; each function gives the index behind its bytes. A byte that
+// finds no room is left out: what is promised of bytes is promised where all of them have room.
 use crate::constants::LINE_END;
 use crate::constants::MINUS;
 use crate::constants::POINT;
@@ -12,49 +13,27 @@ use records::kind_of;
 use solids::Place;
 ghost use mathlib.Core.Path.{_≡_};
 ghost use mathlib.Core.List.{_∷_, []};
-ghost use Prim.Native.Nat.{_%_};
+ghost use Prim.Native.Nat.{_%_, _<_};
 ghost use lib.IntN.{natAbs};
 ghost use Rattle.faults.specs.declared.Finding.the-variants.{Clean};
 ghost use Rattle.records.specs.Record.{recordFinding};
 ghost use Rattle.text.specs.Constants.{space, vertexLimit};
 ghost use Rattle.text.specs.Line.{markBytes};
 ghost use Rattle.text.specs.Written.{digit, digitsOf, decimal, millimetresOf, coordinateText, closed, markOfKind, vertexLine, elementLine, endLine, refusalLine};
-ghost use Rattle.text.specs.WriteLoops.{Holds, Added};
-
-// How many bytes a text has room for: no line is longer.
-const CAPACITY: usize = 48;
+ghost use Rattle.text.specs.WriteLoops.{Put};
 
 // How many digits a usize has at most.
 const LONGEST_NUMBER: usize = 20;
 
-// A text by value: the first `count` of its bytes.
-pub struct Text {
-    pub bytes: [u8; CAPACITY],
-    pub count: usize,
-}
-
-// The text without bytes.
-fn empty() -> Text
-    ensures { λ r. ⌜ Holds [] r ⌝ }
+// A byte.
+fn push(line: &mut [u8], at: usize, x: u8) -> usize
+    ensures { λ r. ⌜ Put (now (line .entry)) at (x ∷ []) (now (line .exit)) r ⌝ }
 {
-    Text {
-        bytes: [0u8; CAPACITY],
-        count: 0,
+    if at < line.len() {
+        line[at] = x;
+        return at + 1;
     }
-}
-
-// A byte after a text, which is left alone where it is full.
-fn push(t: Text, x: u8) -> Text
-    ensures { λ r. ⌜ Added t (x ∷ []) r ⌝ }
-{
-    let at = t.count;
-    if at < CAPACITY {
-        let mut u = t;
-        u.bytes[at] = x;
-        u.count = at + 1;
-        return u;
-    }
-    t
+    at
 }
 
 // The last digit of a number.
@@ -64,25 +43,64 @@ fn digit(k: usize) -> u8
     ZERO + ((k % 10) as u8)
 }
 
-// At most f digits of k, the last ones.
-fn put_digits(t: Text, k: usize, f: usize) -> Text
-    ensures { λ r. ⌜ Added t (digitsOf f k) r ⌝ }
+// A number of one digit.
+fn put_below_ten(line: &mut [u8], at: usize, k: usize) -> usize
+    requires { ⌜ k < 10 ⌝ }
+    ensures { λ r. ⌜ Put (now (line .entry)) at (decimal k) (now (line .exit)) r ⌝ }
 {
-    if f == 0 {
-        return t;
-    }
-    if k < 10 {
-        return push(t, digit(k));
-    }
-    let u = put_digits(t, k / 10, f - 1);
-    push(u, digit(k))
+    push(line, at, ZERO + (k as u8))
 }
 
-// A number in decimal.
-fn put_number(t: Text, k: usize) -> Text
-    ensures { λ r. ⌜ Added t (decimal k) r ⌝ }
+// A number of at most two digits.
+fn put_below_hundred(line: &mut [u8], at: usize, k: usize) -> usize
+    requires { ⌜ k < 100 ⌝ }
+    ensures { λ r. ⌜ Put (now (line .entry)) at (decimal k) (now (line .exit)) r ⌝ }
 {
-    put_digits(t, k, LONGEST_NUMBER)
+    if k < 10 {
+        return put_below_ten(line, at, k);
+    }
+    let next = put_below_ten(line, at, k / 10);
+    push(line, next, digit(k))
+}
+
+// A number of at most three digits.
+fn put_below_thousand(line: &mut [u8], at: usize, k: usize) -> usize
+    requires { ⌜ k < 1000 ⌝ }
+    ensures { λ r. ⌜ Put (now (line .entry)) at (decimal k) (now (line .exit)) r ⌝ }
+{
+    if k < 10 {
+        return put_below_ten(line, at, k);
+    }
+    let next = put_below_hundred(line, at, k / 10);
+    push(line, next, digit(k))
+}
+
+// At most f digits of k, the last ones.
+fn put_digits(line: &mut [u8], at: usize, k: usize, f: usize) -> usize
+    ensures { λ r. ⌜ Put (now (line .entry)) at (digitsOf f k) (now (line .exit)) r ⌝ }
+{
+    if f == 0 {
+        return at;
+    }
+    if k < 10 {
+        return put_below_ten(line, at, k);
+    }
+    let next = put_digits(line, at, k / 10, f - 1);
+    push(line, next, digit(k))
+}
+
+// A number in decimal; one of at most four digits, as a record has, is put without recursion.
+fn put_number(line: &mut [u8], at: usize, k: usize) -> usize
+    ensures { λ r. ⌜ Put (now (line .entry)) at (decimal k) (now (line .exit)) r ⌝ }
+{
+    if k < 1000 {
+        return put_below_thousand(line, at, k);
+    }
+    if k < 10000 {
+        let next = put_below_thousand(line, at, k / 10);
+        return push(line, next, digit(k));
+    }
+    put_digits(line, at, k, LONGEST_NUMBER)
 }
 
 // A coordinate without its sign.
@@ -96,61 +114,65 @@ fn magnitude(z: i32) -> usize
 }
 
 // Thousandths as millimetres, always with three decimals.
-fn put_millimetres(t: Text, m: usize) -> Text
-    ensures { λ r. ⌜ Added t (millimetresOf m) r ⌝ }
+fn put_millimetres(line: &mut [u8], at: usize, m: usize) -> usize
+    ensures { λ r. ⌜ Put (now (line .entry)) at (millimetresOf m) (now (line .exit)) r ⌝ }
 {
-    let whole = put_number(t, m / 1000);
-    let pointed = push(whole, POINT);
-    let tenths = push(pointed, digit(m / 100));
-    let hundredths = push(tenths, digit(m / 10));
-    push(hundredths, digit(m))
+    let whole = put_number(line, at, m / 1000);
+    let pointed = push(line, whole, POINT);
+    let tenths = push(line, pointed, digit(m / 100));
+    let hundredths = push(line, tenths, digit(m / 10));
+    push(line, hundredths, digit(m))
 }
 
 // A coordinate, with no minus on zero.
-fn put_coordinate(t: Text, z: i32) -> Text
-    ensures { λ r. ⌜ Added t (coordinateText z) r ⌝ }
+fn put_coordinate(line: &mut [u8], at: usize, z: i32) -> usize
+    ensures { λ r. ⌜ Put (now (line .entry)) at (coordinateText z) (now (line .exit)) r ⌝ }
 {
     let m = magnitude(z);
     if z < 0 {
-        return put_millimetres(push(t, MINUS), m);
+        let signed = push(line, at, MINUS);
+        return put_millimetres(line, signed, m);
     }
-    put_millimetres(t, m)
+    put_millimetres(line, at, m)
 }
 
 // A field that is a coordinate, preceded by one space.
-fn coordinate_field(t: Text, z: i32) -> Text
-    ensures { λ r. ⌜ Added t (space ∷ coordinateText z) r ⌝ }
+fn coordinate_field(line: &mut [u8], at: usize, z: i32) -> usize
+    ensures { λ r. ⌜ Put (now (line .entry)) at (space ∷ coordinateText z) (now (line .exit)) r ⌝ }
 {
-    put_coordinate(push(t, SPACE), z)
+    let spaced = push(line, at, SPACE);
+    put_coordinate(line, spaced, z)
 }
 
 // A field that is a number, preceded by one space.
-fn number_field(t: Text, k: usize) -> Text
-    ensures { λ r. ⌜ Added t (space ∷ decimal k) r ⌝ }
+fn number_field(line: &mut [u8], at: usize, k: usize) -> usize
+    ensures { λ r. ⌜ Put (now (line .entry)) at (space ∷ decimal k) (now (line .exit)) r ⌝ }
 {
-    put_number(push(t, SPACE), k)
+    let spaced = push(line, at, SPACE);
+    put_number(line, spaced, k)
 }
 
 // Two bytes.
-fn put_two(t: Text, a: u8, b: u8) -> Text
-    ensures { λ r. ⌜ Added t (a ∷ b ∷ []) r ⌝ }
+fn put_two(line: &mut [u8], at: usize, a: u8, b: u8) -> usize
+    ensures { λ r. ⌜ Put (now (line .entry)) at (a ∷ b ∷ []) (now (line .exit)) r ⌝ }
 {
-    push(push(t, a), b)
+    let next = push(line, at, a);
+    push(line, next, b)
 }
 
 // The two bytes of a mark.
-fn put_mark(t: Text, mark: Mark) -> Text
-    ensures { λ r. ⌜ Added t (markBytes mark) r ⌝ }
+fn put_mark(line: &mut [u8], at: usize, mark: Mark) -> usize
+    ensures { λ r. ⌜ Put (now (line .entry)) at (markBytes mark) (now (line .exit)) r ⌝ }
 {
     match mark {
-        Mark::Vx => put_two(t, b'V', b'X'),
-        Mark::Te => put_two(t, b'T', b'E'),
-        Mark::Py => put_two(t, b'P', b'Y'),
-        Mark::Pz => put_two(t, b'P', b'Z'),
-        Mark::Pr => put_two(t, b'P', b'R'),
-        Mark::Hx => put_two(t, b'H', b'X'),
-        Mark::En => put_two(t, b'E', b'N'),
-        Mark::Unknown => t,
+        Mark::Vx => put_two(line, at, b'V', b'X'),
+        Mark::Te => put_two(line, at, b'T', b'E'),
+        Mark::Py => put_two(line, at, b'P', b'Y'),
+        Mark::Pz => put_two(line, at, b'P', b'Z'),
+        Mark::Pr => put_two(line, at, b'P', b'R'),
+        Mark::Hx => put_two(line, at, b'H', b'X'),
+        Mark::En => put_two(line, at, b'E', b'N'),
+        Mark::Unknown => at,
     }
 }
 
@@ -174,51 +196,51 @@ fn mark_of_kind(kind: u16) -> Mark
 }
 
 // VX x y z, with its byte 10.
-pub fn vertex_line(x: i32, y: i32, z: i32) -> Text
-    ensures { λ r. ⌜ Holds (closed (vertexLine x y z)) r ⌝ }
+pub fn vertex_line(line: &mut [u8], x: i32, y: i32, z: i32) -> usize
+    ensures { λ r. ⌜ Put (now (line .entry)) 0 (closed (vertexLine x y z)) (now (line .exit)) r ⌝ }
 {
-    let mark = put_mark(empty(), Mark::Vx);
-    let first = coordinate_field(mark, x);
-    let second = coordinate_field(first, y);
-    let third = coordinate_field(second, z);
-    push(third, LINE_END)
+    let mark = put_mark(line, 0, Mark::Vx);
+    let first = coordinate_field(line, mark, x);
+    let second = coordinate_field(line, first, y);
+    let third = coordinate_field(line, second, z);
+    push(line, third, LINE_END)
 }
 
 // TE, PY, PR or HX and the vertex numbers, with its byte 10.
-pub fn element_line(element: [u16; 9]) -> Text
+pub fn element_line(line: &mut [u8], element: [u16; 9]) -> usize
     requires { ⌜ recordFinding vertexLimit element ≡ Clean ⌝ }
-    ensures { λ r. ⌜ Holds (closed (elementLine element)) r ⌝ }
+    ensures { λ r. ⌜ Put (now (line .entry)) 0 (closed (elementLine element)) (now (line .exit)) r ⌝ }
 {
     let kind = kind_of(&element);
-    let mut t = put_mark(empty(), mark_of_kind(kind));
+    let mut at = put_mark(line, 0, mark_of_kind(kind));
     let mut p: u8 = 0;
     while (p as u16) < kind {
         p += 1;
         let vertex = corner(&element, Place(p));
-        let u = number_field(t, vertex.0 as usize);
-        t = u;
+        let next = number_field(line, at, vertex.0 as usize);
+        at = next;
     }
-    push(t, LINE_END)
+    push(line, at, LINE_END)
 }
 
 // EN with the two counts and its byte 10.
-pub fn end_line(vertices: usize, elements: usize) -> Text
-    ensures { λ r. ⌜ Holds (closed (endLine vertices elements)) r ⌝ }
+pub fn end_line(line: &mut [u8], vertices: usize, elements: usize) -> usize
+    ensures { λ r. ⌜ Put (now (line .entry)) 0 (closed (endLine vertices elements)) (now (line .exit)) r ⌝ }
 {
-    let mark = put_mark(empty(), Mark::En);
-    let first = number_field(mark, vertices);
-    let second = number_field(first, elements);
-    push(second, LINE_END)
+    let mark = put_mark(line, 0, Mark::En);
+    let first = number_field(line, mark, vertices);
+    let second = number_field(line, first, elements);
+    push(line, second, LINE_END)
 }
 
 // NO number place second, with its byte 10.
-pub fn refusal_line(refusal: Refusal) -> Text
-    ensures { λ r. ⌜ Holds (refusalLine refusal) r ⌝ }
+pub fn refusal_line(line: &mut [u8], refusal: Refusal) -> usize
+    ensures { λ r. ⌜ Put (now (line .entry)) 0 (refusalLine refusal) (now (line .exit)) r ⌝ }
 {
     let fault = refusal.fault;
-    let no = put_two(empty(), b'N', b'O');
-    let number = number_field(no, number_of(fault) as usize);
-    let place = number_field(number, refusal.place);
-    let second = number_field(place, refusal.second);
-    push(second, LINE_END)
+    let no = put_two(line, 0, b'N', b'O');
+    let number = number_field(line, no, number_of(fault) as usize);
+    let place = number_field(line, number, refusal.place);
+    let second = number_field(line, place, refusal.second);
+    push(line, second, LINE_END)
 }

@@ -3,17 +3,15 @@
 use mathlib.Core.Path.{_≡_, refl, sym, ap, _∙_}
 use mathlib.Core.List.{List}
 use Prim.Native.Nat.{ℕ, _+_, _-_, _≤_, _<_}
-use native.Mathlib.Nat.{zero-add}
+use native.Mathlib.Nat.{zero-add, le-refl}
 use native.Mathlib.Numerals.{add-one}
 use native.Mathlib.Omega.{arith}
-use borrow.Author.Needs.{needs}
 use denote.Ref.{now}
 use lib.ListN.{length, take, getD, set, length-set}
-use lib.Seq.{paste, paste-zero, paste-suc, length-take-le}
+use lib.Seq.{paste, paste-zero, paste-suc, take-all}
 use Rattle.laws.specs.Lent.{laid}
-use Rattle.text.specs.WriteLoops.{capacity, heldIn}
-use Rattle.text.proofs.TextLaws.{held-length}
 use Rattle.text.proofs.WriteLaws.{room-done, stored-done}
+use borrow.Author.Needs.{needs}
 use Rattle.text.proofs.write.store.Statement.{statement}
 use Rattle.text.proofs.write.store.Tie as tie
 
@@ -37,42 +35,39 @@ step {old} {bytes} {new} {n} {i} h t =
           ∙ paste-suc old 0 bytes i 0 (omega (arith, h .room)) (omega (arith, h .long)));
     }
 
-whole : {old bytes new : List ℕ} {n i : ℕ} → Stored old n bytes new i → n ≤ i → new ≡ laid (take n bytes) old
+whole : {old text new : List ℕ} {n i : ℕ} → Stored old n text new i → n ≤ i → n ≡ length text → new ≡ laid text old
 unfolding laid
-whole {old} {bytes} {new} {n} {i} h l =
-    let e : i ≡ n = omega (arith, h .up) in
-    h .same ∙ rw (e, zero-add n, length-take-le n bytes (h .long))
+whole {old} {text} {new} {n} {i} h l e =
+    let j : i ≡ length text = omega (arith, h .up) in
+    h .same ∙ rw (j, zero-add (length text), take-all (length text) text (le-refl (length text)))
 
 abbrev Inv-loop : tie.InvT-loop
-Inv-loop buffer₀ n bytes i₀ buffer i = Stored buffer₀ n bytes buffer i
+Inv-loop text buffer₀ n i₀ buffer i = Stored buffer₀ n text buffer i
 
 abbrev μ-loop : tie.MeasureT-loop
-μ-loop buffer₀ n bytes i₀ buffer i = n - i
+μ-loop text buffer₀ n i₀ buffer i = n - i
 
 refused-requires : tie.Need-refused-requires Inv-loop μ-loop
 refused-requires c κs = search needs
 
 returns : tie.Need-returns Inv-loop μ-loop
-returns c =
-    let t = c .before .before .before .args .text in
-    let l : length (t .bytes) ≡ capacity = search needs in
-    room-done (heldIn t) (now (c .before .before .before .args .buffer)) (rw (held-length t (omega (arith, c .before .before .before .pre))) (c .before .if1 .taken)) (c .refused .ensures)
+returns c = room-done (now (c .before .before .before .before .args .text)) (now (c .before .before .before .before .args .buffer)) (c .before .if1 .taken) (c .refused .ensures)
 
 loop-holds : tie.Need-loop-holds Inv-loop μ-loop
 loop-holds c =
     record {
-      long = let l : length (c .before .before .before .args .text .bytes) ≡ capacity = search needs in omega (arith, c .before .before .before .pre);
-      room = c .before .if1 .left;
+      long = le-refl (length (now (c .before .before .before .args .text)));
+      room = c .if1 .left;
       up = omega arith;
       size = refl;
-      same = paste-zero (now (c .before .before .before .args .buffer)) 0 (c .before .before .before .args .text .bytes);
+      same = paste-zero (now (c .before .before .before .args .buffer)) 0 (now (c .before .before .before .args .text));
     }
 
-array-read-buffer : tie.Need-array-read-buffer Inv-loop μ-loop
-array-read-buffer c = search needs
+shared-slice-read-buffer : tie.Need-shared-slice-read-buffer Inv-loop μ-loop
+shared-slice-read-buffer c = omega (arith, c .before .before .loop .inv .long, c .before .loop-test .taken)
 
 slice-write-buffer : tie.Need-slice-write-buffer Inv-loop μ-loop
-slice-write-buffer c = omega (arith, c .before .loop .inv .size, c .before .loop .inv .room)
+slice-write-buffer c = omega (arith, c .before .before .loop .inv .size, c .before .before .loop .inv .room, c .before .loop-test .taken)
 
 add-i : tie.Need-add-i Inv-loop μ-loop
 add-i c = omega arith
@@ -81,18 +76,16 @@ loop-less : tie.Need-loop-less Inv-loop μ-loop
 loop-less c = omega arith
 
 loop-again : tie.Need-loop-again Inv-loop μ-loop
-loop-again c = step (c .before .loop .inv) (c .loop-test .taken)
+loop-again c = step (c .before .before .loop .inv) (c .before .loop-test .taken)
 
 same-length : tie.Need-same-length Inv-loop μ-loop
 same-length c = c .before .loop .inv .size
 
 returns-2 : tie.Need-returns-2 Inv-loop μ-loop
-unfolding heldIn
 returns-2 c =
     let h = c .before .loop .inv in
-    let t = c .before .before .before .before .before .args .text in
-    let e = held-length t (h .long) in
-    stored-done (heldIn t) (now (c .before .before .before .before .before .args .buffer)) (t .count) (sym e) (rw e (h .room)) (whole h (c .loop-test .left))
+    let text = now (c .before .before .before .before .before .args .text) in
+    stored-done text (now (c .before .before .before .before .before .args .buffer)) (length text) refl (h .room) (whole h (c .loop-test .left) refl)
 
 pub store-spec : {M : Type 1} → statement M
 store-spec =
@@ -103,7 +96,7 @@ store-spec =
     refused-requires
     returns
     loop-holds
-    array-read-buffer
+    shared-slice-read-buffer
     slice-write-buffer
     add-i
     loop-less

@@ -1,13 +1,11 @@
 -- `text::write::write_element` writes the record of an element. Assumes nothing.
-use native.Mathlib.Omega.{arith}
 use mathlib.Core.Path.{_≡_, sym, _∙_}
-use borrow.Author.Needs.{needs}
 use denote.Ref.{now}
 use Rattle.faults.specs.declared.Finding.the-variants.{Clean}
 use Rattle.records.specs.Record.{recordFinding}
 use Rattle.text.specs.Constants.{vertexLimit}
-use Rattle.text.proofs.WrittenLaws.{element-line-short}
-use Rattle.text.proofs.WriteLaws.{refused-done, line-done, faulty, faultless}
+use Rattle.text.proofs.WriteLaws.{refused-done, same-done, faulty, faultless}
+use borrow.Author.Needs.{needs}
 use Rattle.text.proofs.write.write_element.Statement.{statement}
 use Rattle.text.proofs.write.write_element.Tie as tie
 
@@ -26,11 +24,8 @@ refused-requires c κs = search needs
 enum-told : tie.Need-enum-told
 enum-told c = search needs
 
-element-line-requires : tie.Need-element-line-requires
-element-line-requires c κs = sym (c .before .before .judge-record .ensures) ∙ c .enum-told .given .1
-
-store-requires : tie.Need-store-requires
-store-requires c κs = search needs
+put-element-requires : tie.Need-put-element-requires
+put-element-requires c κs = sym (c .before .before .before .judge-record .ensures) ∙ c .before .enum-told .given .1
 
 returns : tie.Need-returns
 returns c =
@@ -42,9 +37,20 @@ same-length c = search needs
 
 returns-2 : tie.Need-returns-2
 returns-2 c =
-    let s = c .before .before .before .before .before .before .before .before .before .before in
-    let clean : recordFinding vertexLimit (s .args .t1) ≡ Clean = sym (c .before .before .before .before .before .before .before .judge-record .ensures) ∙ c .before .before .before .before .before .enum-told .given .1 in
-    line-done (faultless (s .args .t1) _ clean) (c .before .before .before .before .element-line .ensures) (omega (arith, element-line-short (s .args .t1) clean)) (c .before .before .store .ensures)
+    let s = c .before .before .before .before .before .before .before .before .before in
+    let clean : recordFinding vertexLimit (s .args .t1) ≡ Clean = sym (c .before .before .before .before .before .before .judge-record .ensures) ∙ c .before .before .before .before .enum-told .given .1 in
+    same-done (faultless (s .args .t1) _ clean) (c .before .before .put-element .ensures)
 
 pub write-element-spec : {M : Type 1} → statement M
-write-element-spec = tie.close (tie.spec slice-aggregate-judge-record judge-record-requires enum-known-fault refused-requires enum-told element-line-requires store-requires returns same-length returns-2)
+write-element-spec =
+    tie.close
+    (tie.spec
+    slice-aggregate-judge-record
+    judge-record-requires
+    enum-known-fault
+    refused-requires
+    enum-told
+    put-element-requires
+    returns
+    same-length
+    returns-2)

@@ -1,11 +1,13 @@
 -- `text::write::write_end` writes EN. Assumes nothing.
 use native.Mathlib.Omega.{arith}
-use borrow.Author.Needs.{needs}
 use denote.Ref.{now}
+use mathlib.Core.Path.{refl}
 use Rattle.faults.specs.Refusals.{refuse}
 use Rattle.faults.specs.declared.Fault.the-variants as fault
+use Rattle.text.proofs.PutLaws.{own-short, own-count}
 use Rattle.text.proofs.WrittenLaws.{end-line-short}
-use Rattle.text.proofs.WriteLaws.{refused-done, line-done, many-vertices, many-elements, few-of-both}
+use Rattle.text.proofs.WriteLaws.{refused-done, copied-done, many-vertices, many-elements, few-of-both}
+use borrow.Author.Needs.{needs}
 use Rattle.text.proofs.write.write_end.Statement.{statement}
 use Rattle.text.proofs.write.write_end.Tie as tie
 
@@ -25,8 +27,21 @@ returns-2 c =
     let s = c .before .before .before .before in
     refused-done (now (s .args .buffer)) (refuse fault.Many 0) (many-elements (s .args .vertices) (s .args .elements) _ (c .before .before .if1 .left) (c .before .if2 .taken)) (c .refused2 .ensures)
 
+slice-aggregate-end-line : tie.Need-slice-aggregate-end-line
+slice-aggregate-end-line c = search needs
+
 end-line-requires : tie.Need-end-line-requires
 end-line-requires c κs = search needs
+
+array-share-prefix-line : tie.Need-array-share-prefix-line
+array-share-prefix-line c =
+    let a = c .before .before .before .before .before .before .args in
+    own-short (c .before .end-line .ensures) (c .before .end-line .kept .0) (omega (arith, end-line-short (a .vertices) (a .elements) (c .before .before .before .before .if1 .left) (c .before .before .before .if2 .left)))
+
+slice-aggregate-store : tie.Need-slice-aggregate-store
+slice-aggregate-store c =
+    let a = c .before .before .before .before .before .before .before .args in
+    own-count (c .before .before .end-line .ensures) (c .before .before .end-line .kept .0) (omega (arith, end-line-short (a .vertices) (a .elements) (c .before .before .before .before .before .if1 .left) (c .before .before .before .before .if2 .left)))
 
 store-requires : tie.Need-store-requires
 store-requires c κs = search needs
@@ -36,10 +51,23 @@ same-length c = search needs
 
 returns-3 : tie.Need-returns-3
 returns-3 c =
-    let s = c .before .before .before .before .before .before .before .before in
-    let v = c .before .before .before .before .before .before .if1 .left in
-    let e = c .before .before .before .before .before .if2 .left in
-    line-done (few-of-both (s .args .vertices) (s .args .elements) _ v e) (c .before .before .before .before .end-line .ensures) (omega (arith, end-line-short (s .args .vertices) (s .args .elements) v e)) (c .before .before .store .ensures)
+    let a = c .before .before .before .before .before .before .before .before .before .before .before .args in
+    let v = c .before .before .before .before .before .before .before .before .before .if1 .left in
+    let e = c .before .before .before .before .before .before .before .before .if2 .left in
+    copied-done (few-of-both (a .vertices) (a .elements) _ v e) (c .before .before .before .before .before .before .end-line .ensures) (omega (arith, end-line-short (a .vertices) (a .elements) v e)) (c .before .before .store .ensures)
 
 pub write-end-spec : {M : Type 1} → statement M
-write-end-spec = tie.close (tie.spec refused-requires returns refused-requires-2 returns-2 end-line-requires store-requires same-length returns-3)
+write-end-spec =
+    tie.close
+    (tie.spec
+    refused-requires
+    returns
+    refused-requires-2
+    returns-2
+    slice-aggregate-end-line
+    end-line-requires
+    array-share-prefix-line
+    slice-aggregate-store
+    store-requires
+    same-length
+    returns-3)

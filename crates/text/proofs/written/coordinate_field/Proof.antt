@@ -1,7 +1,7 @@
 -- `text::written::coordinate_field` puts a space and a coordinate. Assumes nothing.
-use borrow.Author.Needs.{needs}
 use mir.Facts.{toZ-ofZ}
-use Rattle.text.proofs.TextLaws.{added-two}
+use Rattle.text.proofs.PutLaws.{put-two}
+use borrow.Author.Needs.{needs}
 use Rattle.text.proofs.written.coordinate_field.Statement.{statement}
 use Rattle.text.proofs.written.coordinate_field.Tie as tie
 
@@ -11,10 +11,19 @@ push-requires c κs = search needs
 put-coordinate-requires : tie.Need-put-coordinate-requires
 put-coordinate-requires c κs = search needs
 
+same-length : tie.Need-same-length
+same-length c = search needs
+
 returns : tie.Need-returns
 returns c =
-    let e = toZ-ofZ (c .before .before .fits .z) in
-    added-two (c .before .push .ensures) (rw e at (c .put-coordinate .ensures))
+    let e = toZ-ofZ (c .before .before .before .before .before .before .before .before .before .fits .z) in
+    put-two (c .before .before .before .before .before .before .push .ensures) (rw e at (c .before .before .put-coordinate .ensures))
 
 pub coordinate-field-spec : {M : Type 1} → statement M
-coordinate-field-spec = tie.close (tie.spec push-requires put-coordinate-requires returns)
+coordinate-field-spec =
+    tie.close
+    (tie.spec
+    push-requires
+    put-coordinate-requires
+    same-length
+    returns)

@@ -1,17 +1,14 @@
--- `text::written::end_line` makes the line EN. Assumes nothing.
+-- `text::written::end_line` puts the line EN. Assumes nothing.
 use mathlib.Core.List.{List, [], _∷_}
 use Prim.Native.Nat.{ℕ}
-use borrow.Author.Needs.{needs}
 use Rattle.text.specs.Line.{markBytes}
 use Rattle.text.specs.Written.{decimal, endLine}
 use Rattle.text.specs.declared.terms.Mark.the-variants.{En}
-use Rattle.text.proofs.TextLaws.{holds-more}
+use Rattle.text.proofs.PutLaws.{put-two}
 use Rattle.text.proofs.WrittenLaws.{line-start, line-field}
+use borrow.Author.Needs.{needs}
 use Rattle.text.proofs.written.end_line.Statement.{statement}
 use Rattle.text.proofs.written.end_line.Tie as tie
-
-empty-requires : tie.Need-empty-requires
-empty-requires c κs = search needs
 
 put-mark-requires : tie.Need-put-mark-requires
 put-mark-requires c κs = search needs
@@ -25,15 +22,26 @@ number-field-requires-2 c κs = search needs
 push-requires : tie.Need-push-requires
 push-requires c κs = search needs
 
+same-length : tie.Need-same-length
+same-length c = search needs
+
 returns : tie.Need-returns
 unfolding endLine
 returns c =
-    let a = c .before .before .before .before .before .args in
+    let a = c .before .before .before .before .before .before .before .before .before .before .before .before .before .before .before .before .before .args in
     let mark : List ℕ = markBytes En in
-    let begun = line-start mark (c .before .before .before .before .empty .ensures) (c .before .before .before .put-mark .ensures) in
-    let first = line-field mark [] (decimal (a .vertices)) begun (c .before .before .number-field .ensures) in
-    let second = line-field mark (decimal (a .vertices) ∷ []) (decimal (a .elements)) first (c .before .number-field2 .ensures) in
-    holds-more second (c .push .ensures)
+    let begun = line-start mark (c .before .before .before .before .before .before .before .before .before .before .before .before .before .before .put-mark .ensures) in
+    let first = line-field mark [] (decimal (a .vertices)) begun (c .before .before .before .before .before .before .before .before .before .before .number-field .ensures) in
+    let second = line-field mark (decimal (a .vertices) ∷ []) (decimal (a .elements)) first (c .before .before .before .before .before .before .number-field2 .ensures) in
+    put-two second (c .before .before .push .ensures)
 
 pub end-line-spec : {M : Type 1} → statement M
-end-line-spec = tie.close (tie.spec empty-requires put-mark-requires number-field-requires number-field-requires-2 push-requires returns)
+end-line-spec =
+    tie.close
+    (tie.spec
+    put-mark-requires
+    number-field-requires
+    number-field-requires-2
+    push-requires
+    same-length
+    returns)

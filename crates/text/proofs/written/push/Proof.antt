@@ -1,20 +1,31 @@
--- `text::written::push` puts a byte after a text. Assumes nothing.
+-- `text::written::push` puts a byte. Assumes nothing.
+use denote.Ref.{now}
+use Rattle.text.proofs.PutLaws.{put-byte, put-full}
 use borrow.Author.Needs.{needs}
-use Rattle.text.proofs.TextLaws.{added-byte, added-full}
 use Rattle.text.proofs.written.push.Statement.{statement}
 use Rattle.text.proofs.written.push.Tie as tie
 
-element-write-u : tie.Need-element-write-u
-element-write-u c = search needs
+slice-write-line : tie.Need-slice-write-line
+slice-write-line c = search needs
 
-add-u : tie.Need-add-u
-add-u c = search needs
+add-result : tie.Need-add-result
+add-result c = search needs
+
+same-length : tie.Need-same-length
+same-length c = search needs
 
 returns : tie.Need-returns
-returns c = added-byte (c .before .args .t) (c .before .args .x) (search needs) (c .if1 .taken)
+returns c = put-byte (now (c .before .args .line)) (c .before .args .at) (c .before .args .x)
 
 returns-2 : tie.Need-returns-2
-returns-2 c = added-full (c .before .args .t) (c .before .args .x) (search needs) (c .if1 .left)
+returns-2 c = put-full (now (c .before .args .line)) (c .before .args .at) (c .before .args .x) (c .if1 .left)
 
 pub push-spec : {M : Type 1} → statement M
-push-spec = tie.close (tie.spec element-write-u add-u returns returns-2)
+push-spec =
+    tie.close
+    (tie.spec
+    slice-write-line
+    add-result
+    same-length
+    returns
+    returns-2)

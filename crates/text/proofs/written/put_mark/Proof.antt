@@ -1,6 +1,7 @@
 -- `text::written::put_mark` puts the two bytes of a mark. Assumes nothing.
+use denote.Ref.{now}
+use Rattle.text.proofs.PutLaws.{put-none}
 use borrow.Author.Needs.{needs}
-use Rattle.text.proofs.TextLaws.{added-none}
 use Rattle.text.proofs.written.put_mark.Statement.{statement}
 use Rattle.text.proofs.written.put_mark.Tie as tie
 
@@ -49,29 +50,50 @@ put-two-requires-7 c κs = search needs
 enum-told-8 : tie.Need-enum-told-8
 enum-told-8 c = search needs
 
+same-length : tie.Need-same-length
+same-length c = search needs
+
 returns : tie.Need-returns
-returns c = rw (c .before .enum-told .given .1) (c .put-two .ensures)
+returns c = rw (c .before .before .before .before .enum-told .given .1) (c .before .before .put-two .ensures)
+
+same-length-2 : tie.Need-same-length-2
+same-length-2 c = search needs
 
 returns-2 : tie.Need-returns-2
-returns-2 c = rw (c .before .enum-told2 .given .1) (c .put-two2 .ensures)
+returns-2 c = rw (c .before .before .before .before .enum-told2 .given .1) (c .before .before .put-two2 .ensures)
+
+same-length-3 : tie.Need-same-length-3
+same-length-3 c = search needs
 
 returns-3 : tie.Need-returns-3
-returns-3 c = rw (c .before .enum-told3 .given .1) (c .put-two3 .ensures)
+returns-3 c = rw (c .before .before .before .before .enum-told3 .given .1) (c .before .before .put-two3 .ensures)
+
+same-length-4 : tie.Need-same-length-4
+same-length-4 c = search needs
 
 returns-4 : tie.Need-returns-4
-returns-4 c = rw (c .before .enum-told4 .given .1) (c .put-two4 .ensures)
+returns-4 c = rw (c .before .before .before .before .enum-told4 .given .1) (c .before .before .put-two4 .ensures)
+
+same-length-5 : tie.Need-same-length-5
+same-length-5 c = search needs
 
 returns-5 : tie.Need-returns-5
-returns-5 c = rw (c .before .enum-told5 .given .1) (c .put-two5 .ensures)
+returns-5 c = rw (c .before .before .before .before .enum-told5 .given .1) (c .before .before .put-two5 .ensures)
+
+same-length-6 : tie.Need-same-length-6
+same-length-6 c = search needs
 
 returns-6 : tie.Need-returns-6
-returns-6 c = rw (c .before .enum-told6 .given .1) (c .put-two6 .ensures)
+returns-6 c = rw (c .before .before .before .before .enum-told6 .given .1) (c .before .before .put-two6 .ensures)
+
+same-length-7 : tie.Need-same-length-7
+same-length-7 c = search needs
 
 returns-7 : tie.Need-returns-7
-returns-7 c = rw (c .before .enum-told7 .given .1) (c .put-two7 .ensures)
+returns-7 c = rw (c .before .before .before .before .enum-told7 .given .1) (c .before .before .put-two7 .ensures)
 
 returns-8 : tie.Need-returns-8
-returns-8 c = rw (c .enum-told8 .given .1) (added-none (c .before .before .args .t) (search needs))
+returns-8 c = rw (c .enum-told8 .given .1) (put-none (now (c .before .before .before .args .line)) (c .before .before .before .args .at))
 
 pub put-mark-spec : {M : Type 1} → statement M
 put-mark-spec =
@@ -92,11 +114,18 @@ put-mark-spec =
     enum-told-7
     put-two-requires-7
     enum-told-8
+    same-length
     returns
+    same-length-2
     returns-2
+    same-length-3
     returns-3
+    same-length-4
     returns-4
+    same-length-5
     returns-5
+    same-length-6
     returns-6
+    same-length-7
     returns-7
     returns-8)

@@ -1,20 +1,61 @@
 -- `text::written::put_number` puts a number in decimal: twenty digits are enough for a usize. Assumes nothing.
 use native.Mathlib.Omega.{arith}
 use mathlib.Core.Path.{_≡_}
-use borrow.Author.Needs.{needs}
 use Rattle.text.specs.Written.{digitsOf, decimal}
 use Rattle.text.proofs.DecimalLaws.{decimal-digits}
+use Rattle.text.proofs.WrittenLaws.{put-last-digit}
+use borrow.Author.Needs.{needs}
 use Rattle.text.proofs.written.put_number.Statement.{statement}
 use Rattle.text.proofs.written.put_number.Tie as tie
+
+put-below-thousand-requires : tie.Need-put-below-thousand-requires
+put-below-thousand-requires c κs = search needs
+
+same-length : tie.Need-same-length
+same-length c = search needs
+
+returns : tie.Need-returns
+returns c = search needs
+
+put-below-thousand-requires-2 : tie.Need-put-below-thousand-requires-2
+put-below-thousand-requires-2 c κs = search needs
+
+digit-requires : tie.Need-digit-requires
+digit-requires c κs = search needs
+
+push-requires : tie.Need-push-requires
+push-requires c κs = search needs
+
+same-length-2 : tie.Need-same-length-2
+same-length-2 c = search needs
+
+returns-2 : tie.Need-returns-2
+returns-2 c = put-last-digit (c .before .before .before .before .before .before .before .before .before .before .before .before .args .k) (omega (arith, c .before .before .before .before .before .before .before .before .before .before .if1 .left)) (c .before .before .before .before .before .before .before .put-below-thousand2 .ensures) (c .before .before .push .ensures) (c .before .before .before .digit .ensures)
 
 put-digits-requires : tie.Need-put-digits-requires
 put-digits-requires c κs = search needs
 
-returns : tie.Need-returns
-returns c =
-    let k = c .before .args .k in
+same-length-3 : tie.Need-same-length-3
+same-length-3 c = search needs
+
+returns-3 : tie.Need-returns-3
+returns-3 c =
+    let k = c .before .before .before .before .before .before .before .args .k in
     let e : decimal k ≡ digitsOf 20 k = decimal-digits 19 k (omega arith) in
-    rw e (c .put-digits .ensures)
+    rw e (c .before .before .put-digits .ensures)
 
 pub put-number-spec : {M : Type 1} → statement M
-put-number-spec = tie.close (tie.spec put-digits-requires returns)
+put-number-spec =
+    tie.close
+    (tie.spec
+    put-below-thousand-requires
+    same-length
+    returns
+    put-below-thousand-requires-2
+    digit-requires
+    push-requires
+    same-length-2
+    returns-2
+    put-digits-requires
+    same-length-3
+    returns-3)

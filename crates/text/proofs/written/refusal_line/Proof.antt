@@ -1,16 +1,13 @@
--- `text::written::refusal_line` makes the line of a refusal. Assumes nothing.
+-- `text::written::refusal_line` puts the line of a refusal. Assumes nothing.
 use mathlib.Core.List.{List, [], _∷_}
 use Prim.Native.Nat.{ℕ}
-use borrow.Author.Needs.{needs}
 use Rattle.faults.specs.Refusals.{numberOf}
 use Rattle.text.specs.Written.{decimal, noBytes, refusalLine}
-use Rattle.text.proofs.TextLaws.{holds-more}
+use Rattle.text.proofs.PutLaws.{put-two}
 use Rattle.text.proofs.WrittenLaws.{line-start, line-field}
+use borrow.Author.Needs.{needs}
 use Rattle.text.proofs.written.refusal_line.Statement.{statement}
 use Rattle.text.proofs.written.refusal_line.Tie as tie
-
-empty-requires : tie.Need-empty-requires
-empty-requires c κs = search needs
 
 put-two-requires : tie.Need-put-two-requires
 put-two-requires c κs = search needs
@@ -33,16 +30,30 @@ number-field-requires-3 c κs = search needs
 push-requires : tie.Need-push-requires
 push-requires c κs = search needs
 
+same-length : tie.Need-same-length
+same-length c = search needs
+
 returns : tie.Need-returns
 unfolding refusalLine
 returns c =
-    let r = c .before .before .before .before .before .before .before .args .refusal in
+    let r = c .before .before .before .before .before .before .before .before .before .before .before .before .before .before .before .before .before .before .before .before .before .before .args .refusal in
     let number : List ℕ = decimal (numberOf (r .fault)) in
-    let begun = line-start noBytes (c .before .before .before .before .before .before .empty .ensures) (c .before .before .before .before .before .put-two .ensures) in
-    let first = line-field noBytes [] number begun (rw (c .before .before .before .before .number-of .ensures) at (c .before .before .before .number-field .ensures)) in
-    let second = line-field noBytes (number ∷ []) (decimal (r .place)) first (c .before .before .number-field2 .ensures) in
-    let third = line-field noBytes (number ∷ decimal (r .place) ∷ []) (decimal (r .second)) second (c .before .number-field3 .ensures) in
-    holds-more third (c .push .ensures)
+    let begun = line-start noBytes (c .before .before .before .before .before .before .before .before .before .before .before .before .before .before .before .before .before .before .before .put-two .ensures) in
+    let first = line-field noBytes [] number begun (rw (c .before .before .before .before .before .before .before .before .before .before .before .before .before .before .before .number-of .ensures) at (c .before .before .before .before .before .before .before .before .before .before .before .before .before .before .number-field .ensures)) in
+    let second = line-field noBytes (number ∷ []) (decimal (r .place)) first (c .before .before .before .before .before .before .before .before .before .before .number-field2 .ensures) in
+    let third = line-field noBytes (number ∷ decimal (r .place) ∷ []) (decimal (r .second)) second (c .before .before .before .before .before .before .number-field3 .ensures) in
+    put-two third (c .before .before .push .ensures)
 
 pub refusal-line-spec : {M : Type 1} → statement M
-refusal-line-spec = tie.close (tie.spec empty-requires put-two-requires number-of-requires cast-number-field number-field-requires number-field-requires-2 number-field-requires-3 push-requires returns)
+refusal-line-spec =
+    tie.close
+    (tie.spec
+    put-two-requires
+    number-of-requires
+    cast-number-field
+    number-field-requires
+    number-field-requires-2
+    number-field-requires-3
+    push-requires
+    same-length
+    returns)
