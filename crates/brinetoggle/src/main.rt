@@ -8,5 +8,9 @@ use faults::Refusal;
 fn main() {
     let mut room = [0u8; 65537];
     reading::read_input(&mut room);
-    words::explain(Refusal { fault: Fault::Comma, place: 2, second: 0 });
+    words::explain(Refusal {
+        fault: Fault::Comma,
+        place: 2,
+        second: 0,
+    });
 }

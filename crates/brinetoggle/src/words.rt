@@ -65,19 +65,31 @@ fn say_sentence(number: u32) {
     match number {
         0 => say(b"DONE: nothing is wrong"),
         1 => say(b"LONG: the file has more than 65,536 bytes"),
-        2 => say(b"MARK: no line with this mark may stand here; expected VX lines, then TE, PY, PZ, PR or HX lines, then one EN line, the last"),
-        3 => say(b"SHAPE: wrong number of fields or wrong spacing; expected one space before each field, as many fields as the mark wants, and a line end"),
+        2 => say(
+            b"MARK: no line with this mark may stand here; expected VX lines, then TE, PY, PZ, PR or HX lines, then one EN line, the last",
+        ),
+        3 => say(
+            b"SHAPE: wrong number of fields or wrong spacing; expected one space before each field, as many fields as the mark wants, and a line end",
+        ),
         4 => say(b"COMMA: a coordinate holds a comma; write 1.250, not 1,250"),
-        5 => say(b"NUMBER: a field is no number of its form; expected a coordinate as -12.5 or 0.125, a vertex number or count as 0 or 4096"),
+        5 => say(
+            b"NUMBER: a field is no number of its form; expected a coordinate as -12.5 or 0.125, a vertex number or count as 0 or 4096",
+        ),
         6 => say(b"RANGE: a coordinate is beyond the limits; expected -500 to 500 millimetres"),
         7 => say(b"MANY: one line too many; expected at most 4,096 vertices and 1,024 elements"),
         8 => say(b"VERTEX: a vertex number is 0 or above the number of VX lines"),
         9 => say(b"ROOM: a table or buffer is too short"),
-        10 => say(b"END: no EN line, or its counts are not those of the file; expected EN, the number of VX lines, the number of element lines"),
+        10 => say(
+            b"END: no EN line, or its counts are not those of the file; expected EN, the number of VX lines, the number of element lines",
+        ),
         11 => say(b"KIND: a kind other than 4, 5, 6 or 8"),
         12 => say(b"SPARE: an unused vertex number is not zero"),
-        13 => say(b"REPEAT: a vertex stands twice in this element; expected another vertex at each corner"),
-        14 => say(b"JOIN: these two elements do not fit; expected no common vertex, one, an edge of both, or a face of both that each sees from its own side"),
+        13 => say(
+            b"REPEAT: a vertex stands twice in this element; expected another vertex at each corner",
+        ),
+        14 => say(
+            b"JOIN: these two elements do not fit; expected no common vertex, one, an edge of both, or a face of both that each sees from its own side",
+        ),
         _ => {}
     }
 }
