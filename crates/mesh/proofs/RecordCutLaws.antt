@@ -1,24 +1,28 @@
 -- The cut of a whole record's element: by its row if it is a hexahedron, by the fan if it is not; at most six tetrahedra.
 -- Assumes nothing.
 use mathlib.Core.Path.{_≡_, sym, ap, _∙_, subst}
+use mathlib.Core.Bool.{Bool, cond}
 use mathlib.Core.List.{List}
 use Prim.Native.Nat.{ℕ, zero, suc, _-_, _≤_, _<_}
 use native.Mathlib.Omega.{arith}
-use lib.Dec.{T, ltb→lt}
+use lib.Dec.{T, eqb, ltb→lt}
+use borrow.Author.Tests.{eq-eqb, ne-eqb}
 use lib.ListN.{length}
 use Rattle.laws.specs.Words.{lowest}
 use Rattle.solids.specs.declared.Solid.the-variants.{Hexahedron}
 use Rattle.solids.specs.Solids.{element, corners, at, opposite, facesOf}
-use Rattle.solids.specs.Cut.{first, bitsOf, fan, tetsOf, inOrder, cut}
+use Rattle.solids.specs.Cut.{first, bitsOf, fan, tetsOf, howMany, inOrder, cut}
 use Rattle.solids.specs.Rows.{binary, rowOf, cutByRow}
 use Rattle.solids.proofs.NumberingLaws.{inside, lowest-place}
 use Rattle.solids.proofs.ShapeLaws.{Proper, first-inside}
 use Rattle.solids.proofs.RowLaws.{rows-agree}
 use Rattle.solids.proofs.CountLaws.{length-inOrder, proper-six}
+use Rattle.solids.proofs.Theorems.{cut-many}
 use Rattle.records.specs.Record.{kindOf, usedOf, isKind, solidOf, elementOf}
 use Rattle.records.specs.Loops.{Whole}
 use Rattle.records.proofs.RecordLaws.{IsOne, is-4, is-5, is-6, is-8, which-kind, kind-corners, kind-small, used-length, whole-proper}
 use Rattle.mesh.specs.BlockLoops.{choice}
+use Rattle.mesh.proofs.ChoiceLaws.{none-through}
 use Rattle.mesh.proofs.RowBounds.{bits-small, row-small}
 
 -- no solid has fewer than four corners
@@ -56,6 +60,41 @@ module _ (r : List ℕ) (w : Whole r) where
   -- at most six tetrahedra
   pub cut-few : length (cut (elementOf r)) ≤ 6
   cut-few = proper-six (elementOf r) (whole-proper r w)
+
+  -- how many they are, by the kind
+  many-by : {k : ℕ} → kindOf r ≡ k → length (cut (elementOf r)) ≡ howMany (element (solidOf k) (usedOf r))
+  unfolding elementOf
+  many-by e = cut-many (elementOf r) (whole-proper r w) ∙ ap (λ (k : ℕ). howMany (element (solidOf k) (usedOf r))) e
+
+  pub many-4 : kindOf r ≡ 4 → 1 ≡ length (cut (elementOf r))
+  unfolding solidOf
+  many-4 e = sym (many-by e)
+
+  pub many-5 : kindOf r ≡ 5 → 2 ≡ length (cut (elementOf r))
+  unfolding solidOf
+  many-5 e = sym (many-by e)
+
+  pub many-else : (kindOf r ≡ 8 → ⊥) → (kindOf r ≡ 4 → ⊥) → (kindOf r ≡ 5 → ⊥) → 3 ≡ length (cut (elementOf r))
+  unfolding solidOf
+  many-else not8 not4 not5 = go (which-kind (kindOf r) (w .kind))
+    where
+      go : IsOne (kindOf r) → 3 ≡ length (cut (elementOf r))
+      go (is-4 q) = absurd (not4 q)
+      go (is-5 q) = absurd (not5 q)
+      go (is-6 q) = sym (many-by q)
+      go (is-8 q) = absurd (not8 q)
+
+  -- a hexahedron's, by its choice of far diagonals
+  module _ (e : kindOf r ≡ 8) {n : ℕ} (h : n ≡ binary (bitsOf (usedOf r))) where
+    many-8 : length (cut (elementOf r)) ≡ cond (eqb n 0) 5 6
+    unfolding solidOf
+    many-8 = many-by e ∙ ap (λ (b : Bool). cond b 5 6) (none-through (bitsOf (usedOf r)) ∙ ap (λ (m : ℕ). eqb m 0) (sym h))
+
+    pub many-none : n ≡ 0 → 5 ≡ length (cut (elementOf r))
+    many-none z = sym (many-8 ∙ ap (λ (b : Bool). cond b 5 6) (eq-eqb n 0 z))
+
+    pub many-some : (n ≡ 0 → ⊥) → 6 ≡ length (cut (elementOf r))
+    many-some z = sym (many-8 ∙ ap (λ (b : Bool). cond b 5 6) (ne-eqb n 0 z))
 
   module _ (e : kindOf r ≡ 8) where
     is-hexahedron : solidOf (kindOf r) ≡ Hexahedron

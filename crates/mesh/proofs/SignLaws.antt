@@ -1,9 +1,10 @@
 -- The counts of the sign report: tetrahedron by tetrahedron, and element by element; they add up to the number of tetrahedra.
 -- Assumes nothing.
 use mathlib.Core.Path.{_≡_, refl, sym, ap, _∙_}
-use mathlib.Core.Bool.{Bool, true, false, cond, not}
+use mathlib.Core.Bool.{Bool, true, false, cond, not, _&&_}
 use mathlib.Core.List.{List, [], _∷_, _++_, append-nil}
 use Prim.Native.Nat.{ℕ, zero, suc, _+_, _*_, _≤_, _<_}
+use native.Mathlib.Nat.{zero-add}
 use native.Mathlib.Omega.{arith}
 use borrow.Author.Tests.{lt-ltb, le-ltb, ltb-false, ne-eqb}
 use lib.Dec.{eqb, ltb}
@@ -29,10 +30,15 @@ use Rattle.mesh.specs.Judge.{judged}
 use Rattle.mesh.specs.JudgeLoops.{firstRefusal, roomAnswer}
 use Rattle.mesh.specs.Signs.{vertexWidth, volumeIn, isPositive, isZero, isNegative, sound, signCounts, badPoint, signsOf, signVerdict, SignDone}
 use Rattle.mesh.specs.BlockLoops.{tetsIn, BlockIs}
-use Rattle.mesh.specs.SignLoops.{rangeAnswer, verticesAnswer, signOf, isPlus, withSign, Tallied, SaysSound, ofCounts, FewSums, Summed}
+use Rattle.mesh.specs.SignLoops.{rangeAnswer, verticesAnswer, signOf, withSign, Tallied, allPositive, ofCounts, FewSums, Summed}
 use Rattle.laws.proofs.ListLaws.{gather-append}
 
 -- ---- a sign
+
+abbrev pub isPlus : Sign → Bool
+isPlus Positive = true
+isPlus Zero = false
+isPlus Negative = false
 
 abbrev isNull : Sign → Bool
 isNull Positive = false
@@ -64,7 +70,7 @@ module _ (table : List ℤ) (t : Tet ℕ) where
   abbrev signIn : Sign
   signIn = signOf (volumeIn table t)
 
-  pub positive-by-sign : isPositive table t ≡ isPlus signIn
+  positive-by-sign : isPositive table t ≡ isPlus signIn
   unfolding isPositive
   positive-by-sign = plus-sign (volumeIn table t)
 
@@ -91,6 +97,10 @@ one-sign : (s : Sign) → cond (isPlus s) 1 0 + cond (isNull s) 1 0 + cond (isMi
 one-sign Positive = refl
 one-sign Zero = refl
 one-sign Negative = refl
+
+and-false : (b : Bool) → (b && false) ≡ false
+and-false true = refl
+and-false false = refl
 
 -- ---- tetrahedra
 
@@ -144,10 +154,23 @@ module _ (table : List ℤ) where
 
   -- ---- elements
 
-  -- a block whose tetrahedra are all positive, or not
-  pub says-sound : {block : Block} {b : Bool} → b ≡ every (isPositive table) (tetsIn block) → SaysSound table block b
-  unfolding sound
-  says-sound e = record { same = λ x h. e ∙ ap (every (isPositive table)) (h .same) }
+  -- none is zero or negative exactly if all are positive
+  tally-sound : (ts : List (Tet ℕ)) → (eqb (count (isZero table) ts) 0 && eqb (count (isNegative table) ts) 0) ≡ every (isPositive table) ts
+  tally-sound [] = refl
+  tally-sound (t ∷ ts) =
+      rw (positive-by-sign table t, zero-by-sign table t, negative-by-sign table t) (go (signOf (volumeIn table t)) (tally-sound ts))
+    where
+      zeros : ℕ
+      zeros = count (isZero table) ts
+
+      negatives : ℕ
+      negatives = count (isNegative table) ts
+
+      go : (s : Sign) → (eqb zeros 0 && eqb negatives 0) ≡ every (isPositive table) ts
+          → (eqb (cond (isNull s) 1 0 + zeros) 0 && eqb (cond (isMinus s) 1 0 + negatives) 0) ≡ (isPlus s && every (isPositive table) ts)
+      go Positive h = (λ i. eqb (zero-add zeros i) 0 && eqb (zero-add negatives i) 0) ∙ h
+      go Zero h = ap (λ b. b && eqb (0 + negatives) 0) (ne-eqb (1 + zeros) 0 (omega arith))
+      go Negative h = ap (λ b. eqb (0 + zeros) 0 && b) (ne-eqb (1 + negatives) 0 (omega arith)) ∙ and-false (eqb (0 + zeros) 0)
 
   -- the four counts, one by one
   pub record CountsAre (es : List Element) (r : SignCounts) : Type 0 where
@@ -173,6 +196,11 @@ module _ (table : List ℤ) where
     alone : (P : Tet ℕ → Bool) {n : ℕ} → n ≡ count P (tetsIn block) → n ≡ count P (cutMesh (e ∷ []))
     unfolding cutMesh
     alone P p = p ∙ ap (count P) (k .same ∙ sym (append-nil (cut e)))
+
+    -- the tally says whether the element is sound
+    pub sound-by-tally : allPositive c ≡ sound table e
+    unfolding sound
+    sound-by-tally = (λ i. eqb (h .zero i) 0 && eqb (h .negative i) 0) ∙ tally-sound (tetsIn block) ∙ ap (every (isPositive table)) (k .same)
 
     pub counts-of-one : {n : ℕ} → n ≡ count (λ x. not (sound table x)) (e ∷ []) → ofCounts (record { positive = c .positive; zero = c .zero; negative = c .negative; unsound = n }) ≡ signCounts table (e ∷ [])
     counts-of-one u = to-list (record {

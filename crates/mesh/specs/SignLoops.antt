@@ -4,15 +4,14 @@ use mathlib.Core.Path.{_≡_}
 use mathlib.Core.Bool.{Bool, true, false, cond, _&&_}
 use mathlib.Core.List.{List, [], _∷_}
 use Prim.Native.Nat.{ℕ, zero, suc, _+_, _*_, _≤_, _<_}
-use lib.Dec.{T, ltb, leb}
+use lib.Dec.{T, eqb, ltb, leb}
 use lib.IntN.{ℤ, pos, negsuc}
 use lib.ListN.{length}
 use Rattle.laws.specs.Words.{count, every}
 use Rattle.faults.specs.declared.Fault.the-variants.{Range}
 use Rattle.faults.specs.Refusals.{refuse}
 use Rattle.volume.specs.Volume.{pointInRange, pointAt}
-use Rattle.solids.specs.Solids.{Vertex, Tet, ofTet, Element}
-use Rattle.solids.specs.Cut.{cut}
+use Rattle.solids.specs.Solids.{Vertex, Tet, ofTet}
 use Rattle.records.specs.Record.{usedOf, recordAt}
 use Rattle.mesh.specs.declared.JudgeAnswer.{JudgeAnswer}
 use Rattle.mesh.specs.declared.JudgeAnswer.the-variants.{Done, Refused}
@@ -22,8 +21,8 @@ use Rattle.mesh.specs.declared.signs.Sign.{Sign}
 use Rattle.mesh.specs.declared.signs.Sign.the-variants.{Positive, Zero, Negative}
 use Rattle.mesh.specs.declared.signs.Tally.{Tally}
 use Rattle.mesh.specs.JudgeLoops.{firstRefusal, roomAnswer}
-use Rattle.mesh.specs.Signs.{vertexWidth, badPoint, isPositive, isZero, isNegative, sound}
-use Rattle.mesh.specs.BlockLoops.{tetsIn, BlockIs}
+use Rattle.mesh.specs.Signs.{vertexWidth, badPoint, isPositive, isZero, isNegative}
+use Rattle.mesh.specs.BlockLoops.{tetsIn}
 
 -- ---- a vertex table
 
@@ -61,12 +60,6 @@ signOf (pos zero) = Zero
 signOf (pos (suc n)) = Positive
 signOf (negsuc n) = Negative
 
--- the sign is positive
-abbrev pub isPlus : Sign → Bool
-isPlus Positive = true
-isPlus Zero = false
-isPlus Negative = false
-
 -- one tetrahedron more of a sign
 abbrev pub withSign : Sign → Tally → Tally
 withSign Positive c = record { positive = c .positive + 1; zero = c .zero; negative = c .negative }
@@ -87,9 +80,9 @@ pub record Tallied (table : List ℤ) (ts : List (Tet Vertex)) (c : Tally) : Typ
   pub zero : c .zero ≡ count (isZero table) ts
   pub negative : c .negative ≡ count (isNegative table) ts
 
--- b says whether an element is sound that is cut into these tetrahedra
-pub record SaysSound (table : List ℤ) (block : Block) (b : Bool) : Type 0 where
-  pub same : (e : Element) → BlockIs block (cut e) → b ≡ sound table e
+-- none is zero or negative
+abbrev pub allPositive : Tally → Bool
+allPositive c = eqb (c .zero) 0 && eqb (c .negative) 0
 
 -- the four counts as a list
 abbrev pub ofCounts : SignCounts → List ℕ

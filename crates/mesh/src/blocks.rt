@@ -10,8 +10,8 @@ ghost use lib.ListN.{length, take};
 ghost use Rattle.laws.specs.Words.{among, lowest};
 ghost use Rattle.solids.specs.declared.Solid.the-variants.{Hexahedron};
 ghost use Rattle.solids.specs.Solids.{four, element, ofTet, onTet, at, opposite, holds, facesOf};
-ghost use Rattle.solids.specs.Cut.{lowestFirst, halves, follow, first, onDiagonal, fan, secondLowest, written, upTo, insert, inOrder, cut};
-ghost use Rattle.solids.specs.Rows.{rowPlace, rowOf, cutByRow};
+ghost use Rattle.solids.specs.Cut.{lowestFirst, halves, follow, first, onDiagonal, bitsOf, fan, secondLowest, written, upTo, insert, inOrder, cut};
+ghost use Rattle.solids.specs.Rows.{cutPlaces, rowPlace, binary, rowOf, cutByRow};
 ghost use Rattle.records.specs.Record.{kindOf, usedOf, elementOf};
 ghost use Rattle.records.specs.Loops.{Whole};
 ghost use Rattle.mesh.specs.BlockLoops.{tetOf, faceOf, Grown, BlockIs, faceIn, faceTets, choice, withBit, rowTet, rowTetsAt};
@@ -296,7 +296,7 @@ fn on_diagonal(v: Vertex, face: Face) -> bool
 
 // The choice of diagonals with the bit of one more face, if that is far from the lowest corner.
 fn with_bit(number: usize, low: Vertex, high: Vertex, face: Face) -> usize
-    requires { ⌜ number ≤ 7 ⌝ }
+    requires { ⌜ number ≤ 31 ⌝ }
     ensures { λ r. ⌜ r ≡ withBit (low .0) (high .0) (faceOf face) number ⌝ }
 {
     if is_corner(low, face) {
@@ -308,19 +308,39 @@ fn with_bit(number: usize, low: Vertex, high: Vertex, face: Face) -> usize
     2 * number
 }
 
+// The face of a record with four places.
+fn four_at(numbers: &[u16], p: u8, q: u8, r: u8, s: u8) -> Face
+    ensures { λ f. ⌜ faceOf f ≡ four (at (usedOf (now (numbers .entry))) p) (at (usedOf (now (numbers .entry))) q) (at (usedOf (now (numbers .entry))) r) (at (usedOf (now (numbers .entry))) s) ⌝ }
+{
+    Face::Four(
+        vertex_at(numbers, Place(p)),
+        vertex_at(numbers, Place(q)),
+        vertex_at(numbers, Place(r)),
+        vertex_at(numbers, Place(s)),
+    )
+}
+
 // The choice of far diagonals of a hexahedron, the bit of its first far face last.
 fn diagonals(numbers: &[u16], low: Vertex, high: Vertex) -> usize
-    requires { ⌜ choice (low .0) (high .0) (facesOf (element Hexahedron (usedOf (now numbers)))) ≤ 7 ⌝ }
     ensures { λ r. ⌜ r ≡ choice (low .0) (high .0) (facesOf (element Hexahedron (usedOf (now (numbers .entry))))) ⌝ }
 {
-    let mut number = 0;
-    let mut i = 6;
-    while 0 < i {
-        i -= 1;
-        let face = face_of(numbers, Solid::Hexahedron, i);
-        number = with_bit(number, low, high, face);
-    }
-    number
+    let sixth = with_bit(0, low, high, four_at(numbers, 3, 4, 8, 7));
+    let fifth = with_bit(sixth, low, high, four_at(numbers, 5, 6, 7, 8));
+    let fourth = with_bit(fifth, low, high, four_at(numbers, 2, 3, 7, 6));
+    let third = with_bit(fourth, low, high, four_at(numbers, 1, 5, 8, 4));
+    let second = with_bit(third, low, high, four_at(numbers, 1, 2, 6, 5));
+    with_bit(second, low, high, four_at(numbers, 1, 4, 3, 2))
+}
+
+// The choice of far diagonals of a hexahedron whose lowest corner's place is given.
+fn choice_at(numbers: &[u16], place: Place) -> usize
+    requires { ⌜ Whole (now numbers) ⌝ }
+    requires { ⌜ place .0 ≡ first (usedOf (now numbers)) ⌝ }
+    ensures { λ r. ⌜ r ≡ binary (bitsOf (usedOf (now (numbers .entry)))) ⌝ }
+{
+    let low = vertex_at(numbers, place);
+    let high = vertex_at(numbers, opposite_place(place));
+    diagonals(numbers, low, high)
 }
 
 // The row of a hexahedron: that of its lowest corner and its three far diagonals.
@@ -330,49 +350,66 @@ fn row_of(numbers: &[u16]) -> usize
     ensures { λ r. ⌜ r ≡ rowOf (usedOf (now (numbers .entry))) ⌝ }
 {
     let place = lowest_place(numbers);
-    let low = vertex_at(numbers, place);
-    let high = vertex_at(numbers, opposite_place(place));
-    let number = diagonals(numbers, low, high);
+    let number = choice_at(numbers, place);
     8 * (place.0 as usize - 1) + number
 }
 
+// The place `at` of a row, read from the table of cuts.
+fn place_in(cuts: &[u8; 1536], row: usize, at: usize) -> Place
+    requires { ⌜ now cuts ≡ cutPlaces ⌝ }
+    requires { ⌜ row < 64 ⌝ }
+    requires { ⌜ at < 24 ⌝ }
+    ensures { λ r. ⌜ r .0 ≡ rowPlace row at ⌝ }
+{
+    let i = row * 24 + at;
+    Place(cuts[i])
+}
+
 // The vertex of a record at the place `place` of a row of cuts.
-fn row_vertex(numbers: &[u16], row: usize, place: usize) -> Vertex
+fn row_vertex(numbers: &[u16], cuts: &[u8; 1536], row: usize, place: usize) -> Vertex
+    requires { ⌜ now cuts ≡ cutPlaces ⌝ }
+    requires { ⌜ row < 64 ⌝ }
+    requires { ⌜ place < 24 ⌝ }
     ensures { λ r. ⌜ r .0 ≡ at (usedOf (now (numbers .entry))) (rowPlace row place) ⌝ }
 {
-    vertex_at(numbers, solids::row_place(row, place))
+    vertex_at(numbers, place_in(cuts, row, place))
 }
 
 // The tetrahedron k, from 0, of a row of cuts, in vertex numbers.
-fn row_tet(numbers: &[u16], row: usize, k: usize) -> Tet
+fn row_tet(numbers: &[u16], cuts: &[u8; 1536], row: usize, k: usize) -> Tet
+    requires { ⌜ now cuts ≡ cutPlaces ⌝ }
+    requires { ⌜ row < 64 ⌝ }
     requires { ⌜ k < 6 ⌝ }
     ensures { λ t. ⌜ tetOf t ≡ onTet (at (usedOf (now (numbers .entry)))) (rowTet row k) ⌝ }
 {
     Tet(
-        row_vertex(numbers, row, 4 * k),
-        row_vertex(numbers, row, 4 * k + 1),
-        row_vertex(numbers, row, 4 * k + 2),
-        row_vertex(numbers, row, 4 * k + 3),
+        row_vertex(numbers, cuts, row, 4 * k),
+        row_vertex(numbers, cuts, row, 4 * k + 1),
+        row_vertex(numbers, cuts, row, 4 * k + 2),
+        row_vertex(numbers, cuts, row, 4 * k + 3),
     )
 }
 
 // A block with the tetrahedron k of a row of cuts, unless that is four zeros.
-fn with_row_tet(block: Block, numbers: &[u16], row: usize, k: usize) -> Block
+fn with_row_tet(block: Block, numbers: &[u16], cuts: &[u8; 1536], row: usize, k: usize) -> Block
+    requires { ⌜ now cuts ≡ cutPlaces ⌝ }
+    requires { ⌜ row < 64 ⌝ }
     requires { ⌜ k < 6 ⌝ }
     requires { ⌜ block .count < 6 ⌝ }
     ensures { λ r. ⌜ Grown block (rowTetsAt (usedOf (now (numbers .entry))) row k) r ⌝ }
 {
-    let p = solids::row_place(row, 4 * k);
+    let p = place_in(cuts, row, 4 * k);
     if p.0 == 0 {
         return block;
     }
-    added(block, row_tet(numbers, row, k))
+    added(block, row_tet(numbers, cuts, row, k))
 }
 
-// A hexahedron's tetrahedra, by its row.
-fn row_block(numbers: &[u16]) -> Block
+// A hexahedron's tetrahedra, by its row of the table of cuts.
+fn row_block(numbers: &[u16], cuts: &[u8; 1536]) -> Block
     requires { ⌜ Whole (now numbers) ⌝ }
     requires { ⌜ kindOf (now numbers) ≡ 8 ⌝ }
+    requires { ⌜ now cuts ≡ cutPlaces ⌝ }
     ensures { λ r. ⌜ BlockIs r (cutByRow (usedOf (now (numbers .entry)))) ⌝ }
 {
     let row = row_of(numbers);
@@ -380,7 +417,7 @@ fn row_block(numbers: &[u16]) -> Block
     let mut k = 6;
     while 0 < k {
         k -= 1;
-        let next = with_row_tet(block, numbers, row, k);
+        let next = with_row_tet(block, numbers, cuts, row, k);
         block = next;
     }
     block
@@ -430,13 +467,44 @@ fn fan_block(numbers: &[u16]) -> Block
     block
 }
 
-// The tetrahedra of a record's element: the hexahedron's by its row, the others' by the rule.
-pub fn block_of(numbers: &[u16]) -> Block
+// The tetrahedra of a record's element: the hexahedron's by its row of the table of cuts, the others' by the rule.
+pub fn block_of(numbers: &[u16], cuts: &[u8; 1536]) -> Block
     requires { ⌜ Whole (now numbers) ⌝ }
+    requires { ⌜ now cuts ≡ cutPlaces ⌝ }
     ensures { λ r. ⌜ BlockIs r (cut (elementOf (now (numbers .entry)))) ⌝ }
 {
     if records::kind_of(numbers) == 8 {
-        return row_block(numbers);
+        return row_block(numbers, cuts);
     }
     fan_block(numbers)
+}
+
+// How many tetrahedra a hexahedron gives: six, or five where no far diagonal passes the opposite corner.
+fn hexahedron_count(numbers: &[u16]) -> usize
+    requires { ⌜ Whole (now numbers) ⌝ }
+    requires { ⌜ kindOf (now numbers) ≡ 8 ⌝ }
+    ensures { λ r. ⌜ r ≡ length (cut (elementOf (now (numbers .entry)))) ⌝ }
+{
+    if choice_at(numbers, lowest_place(numbers)) == 0 {
+        return 5;
+    }
+    6
+}
+
+// How many tetrahedra a record's element gives.
+pub fn count_of(numbers: &[u16]) -> usize
+    requires { ⌜ Whole (now numbers) ⌝ }
+    ensures { λ r. ⌜ r ≡ length (cut (elementOf (now (numbers .entry)))) ⌝ }
+{
+    let kind = records::kind_of(numbers);
+    if kind == 8 {
+        return hexahedron_count(numbers);
+    }
+    if kind == 4 {
+        return 1;
+    }
+    if kind == 5 {
+        return 2;
+    }
+    3
 }

@@ -11,6 +11,7 @@ ghost use Prim.Native.Nat.{_+_, _*_, _≤_};
 ghost use lib.ListN.{length, take};
 ghost use Rattle.laws.specs.Lent.{laid, placed};
 ghost use Rattle.solids.specs.Cut.{cut, cutMesh};
+ghost use Rattle.solids.specs.Rows.{cutPlaces};
 ghost use Rattle.records.specs.Record.{elementOf, firstElements};
 ghost use Rattle.records.specs.Loops.{Whole, WholeTable};
 ghost use Rattle.mesh.specs.Cutting.{tetWidth, flat};
@@ -46,12 +47,13 @@ fn put_tets(out: &mut [u16], at: usize, tets: [Tet; 6], n: usize)
 }
 
 // An element's tetrahedra, from an index on; their count.
-fn put_element(numbers: &[u16], out: &mut [u16], at: usize) -> usize
+fn put_element(numbers: &[u16], cuts: &[u8; 1536], out: &mut [u16], at: usize) -> usize
     requires { ⌜ Whole (now numbers) ⌝ }
+    requires { ⌜ now cuts ≡ cutPlaces ⌝ }
     requires { ⌜ at + tetWidth * length (cut (elementOf (now numbers))) ≤ length (now out) ⌝ }
     ensures { λ r. ⌜ Stored (cut (elementOf (now (numbers .entry)))) at (now (out .entry)) r (now (out .exit)) ⌝ }
 {
-    let block = blocks::block_of(numbers);
+    let block = blocks::block_of(numbers, cuts);
     let count = block.count;
     let tets = block.tets;
     put_tets(out, at, tets, count);
@@ -66,11 +68,27 @@ fn count_all(table: &[u16], n: usize) -> usize
     let mut count = 0;
     let mut k = 0;
     while k < n {
-        let block = blocks::block_of(records::record_at(table, k));
-        count += block.count;
+        let more = blocks::count_of(records::record_at(table, k));
+        count += more;
         k += 1;
     }
     count
+}
+
+// The cut of the first n elements, from the front on, by the table of cuts.
+fn cut_each(table: &[u16], n: usize, cuts: &[u8; 1536], out: &mut [u16])
+    requires { ⌜ WholeTable (now table) n ⌝ }
+    requires { ⌜ now cuts ≡ cutPlaces ⌝ }
+    requires { ⌜ tetWidth * length (cutMesh (firstElements (now table) n)) ≤ length (now out) ⌝ }
+    ensures { λ _. ⌜ now (out .exit) ≡ laid (flat (cutMesh (firstElements (now (table .entry)) n))) (now (out .entry)) ⌝ }
+{
+    let mut count = 0;
+    let mut k = 0;
+    while k < n {
+        let more = put_element(records::record_at(table, k), cuts, out, TET * count);
+        count += more;
+        k += 1;
+    }
 }
 
 // The cut of the first n elements, from the front on.
@@ -79,13 +97,8 @@ fn cut_all(table: &[u16], n: usize, out: &mut [u16])
     requires { ⌜ tetWidth * length (cutMesh (firstElements (now table) n)) ≤ length (now out) ⌝ }
     ensures { λ _. ⌜ now (out .exit) ≡ laid (flat (cutMesh (firstElements (now (table .entry)) n))) (now (out .entry)) ⌝ }
 {
-    let mut count = 0;
-    let mut k = 0;
-    while k < n {
-        let more = put_element(records::record_at(table, k), out, TET * count);
-        count += more;
-        k += 1;
-    }
+    let cuts = solids::cut_places();
+    cut_each(table, n, &cuts, out);
 }
 
 // How many numbers the tetrahedra take.

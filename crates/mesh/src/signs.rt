@@ -17,11 +17,12 @@ ghost use lib.IntN.{pos};
 ghost use lib.ListN.{getD};
 ghost use Rattle.laws.specs.Words.{every};
 ghost use Rattle.volume.specs.Volume.{pointAt};
+ghost use Rattle.solids.specs.Rows.{cutPlaces};
 ghost use Rattle.records.specs.Record.{usedOf, elementOf, firstElements};
 ghost use Rattle.records.specs.Loops.{Whole, WholeTable};
 ghost use Rattle.mesh.specs.Signs.{vertexWidth, volumeIn, signCounts, badPoint};
 ghost use Rattle.mesh.specs.BlockLoops.{tetOf, tetsIn};
-ghost use Rattle.mesh.specs.SignLoops.{rangeAnswer, verticesAnswer, sited, sitedTet, SitedBlock, SitedTable, signOf, isPlus, withSign, Few, Tallied, SaysSound, ofCounts, FewSums, Summed};
+ghost use Rattle.mesh.specs.SignLoops.{rangeAnswer, verticesAnswer, sited, sitedTet, SitedBlock, SitedTable, signOf, withSign, Few, Tallied, allPositive, ofCounts, FewSums, Summed};
 
 // How many numbers a vertex has.
 const POINT: usize = 3;
@@ -190,47 +191,29 @@ fn tally_block(block: Block, vertices: &[i32]) -> Tally
     tally
 }
 
-// The sign is positive.
-fn is_plus(sign: Sign) -> bool
-    ensures { λ r. ⌜ r ≡ isPlus sign ⌝ }
+// An element whose tetrahedra have this tally is sound: all of them are positive, none is zero or negative.
+fn is_sound(tally: Tally) -> bool
+    ensures { λ r. ⌜ r ≡ allPositive tally ⌝ }
 {
-    match sign {
-        Sign::Positive => true,
-        Sign::Zero => false,
-        Sign::Negative => false,
+    if tally.zero == 0 {
+        return tally.negative == 0;
     }
-}
-
-// The element that is cut into a block is sound: all its tetrahedra are positive.
-fn sound_block(block: Block, vertices: &[i32]) -> bool
-    requires { ⌜ SitedBlock (now vertices) block ⌝ }
-    ensures { λ r. ⌜ SaysSound (now (vertices .entry)) block r ⌝ }
-{
-    let n = block.count;
-    let tets = block.tets;
-    let mut passed = 0;
-    while passed < n {
-        let t = tets[passed];
-        if !is_plus(sign_at(t, vertices)) {
-            return false;
-        }
-        passed += 1;
-    }
-    true
+    false
 }
 
 // The four counts of one element.
-fn element_counts(numbers: &[u16], vertices: &[i32]) -> SignCounts
+fn element_counts(numbers: &[u16], cuts: &[u8; 1536], vertices: &[i32]) -> SignCounts
     requires { ⌜ Whole (now numbers) ⌝ }
+    requires { ⌜ now cuts ≡ cutPlaces ⌝ }
     requires { ⌜ T (every (sited (now vertices)) (usedOf (now numbers))) ⌝ }
     ensures { λ r. ⌜ ofCounts r ≡ signCounts (now (vertices .entry)) (elementOf (now (numbers .entry)) ∷ []) ⌝ }
 {
-    let block = blocks::block_of(numbers);
+    let block = blocks::block_of(numbers, cuts);
     let tally = tally_block(block, vertices);
     let positive = tally.positive;
     let zero = tally.zero;
     let negative = tally.negative;
-    if sound_block(block, vertices) {
+    if is_sound(tally) {
         return SignCounts {
             positive: positive,
             zero: zero,
@@ -259,9 +242,10 @@ fn sum_of(a: SignCounts, b: SignCounts) -> SignCounts
     }
 }
 
-// Positive, zero and negative tetrahedra of the cut of the first n elements, and unsound elements.
-pub fn count_signs(table: &[u16], n: usize, vertices: &[i32]) -> SignCounts
+// Positive, zero and negative tetrahedra of the cut of the first n elements, and unsound elements, by the table of cuts.
+fn count_each(table: &[u16], n: usize, cuts: &[u8; 1536], vertices: &[i32]) -> SignCounts
     requires { ⌜ WholeTable (now table) n ⌝ }
+    requires { ⌜ now cuts ≡ cutPlaces ⌝ }
     requires { ⌜ SitedTable (now vertices) (now table) n ⌝ }
     ensures { λ r. ⌜ ofCounts r ≡ signCounts (now (vertices .entry)) (firstElements (now (table .entry)) n) ⌝ }
 {
@@ -273,12 +257,22 @@ pub fn count_signs(table: &[u16], n: usize, vertices: &[i32]) -> SignCounts
     };
     let mut k = 0;
     while k < n {
-        let more = element_counts(records::record_at(table, k), vertices);
+        let more = element_counts(records::record_at(table, k), cuts, vertices);
         let next = sum_of(counts, more);
         counts = next;
         k += 1;
     }
     counts
+}
+
+// Positive, zero and negative tetrahedra of the cut of the first n elements, and unsound elements.
+pub fn count_signs(table: &[u16], n: usize, vertices: &[i32]) -> SignCounts
+    requires { ⌜ WholeTable (now table) n ⌝ }
+    requires { ⌜ SitedTable (now vertices) (now table) n ⌝ }
+    ensures { λ r. ⌜ ofCounts r ≡ signCounts (now (vertices .entry)) (firstElements (now (table .entry)) n) ⌝ }
+{
+    let cuts = solids::cut_places();
+    count_each(table, n, &cuts, vertices)
 }
 
 // How many numbers the vertices take.

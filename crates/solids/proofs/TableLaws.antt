@@ -11,8 +11,8 @@ use lib.Dec.{T, eqb, leb, eqb→eq, leb→le}
 use lib.ListN.{length, getD, length-map, List·getD-eq-default}
 use Rattle.laws.specs.Words.{every}
 use Rattle.solids.specs.Solids.{Solid, tetrahedron, pyramid, prism, hexahedron, Face, three, four, faces, faceCount, faceCorners, facePlace, ofFace}
-use Rattle.solids.specs.Rows.{hexRows, rowPlaces, rowPlace}
-use Rattle.solids.specs.Loops.{faceRows, firstFace, cutPlaces}
+use Rattle.solids.specs.Rows.{hexRows, cutPlaces, rowPlaces, rowPlace}
+use Rattle.solids.specs.Loops.{faceRows, firstFace}
 use Rattle.laws.proofs.TestLaws.{and-left, and-right, below, at-below}
 
 -- ---- the faces

@@ -1,9 +1,7 @@
 -- Shapes that only the code wants; proofs/TableLaws.antt says that each is what the page's definitions give.
 use mathlib.Core.List.{List, [], _∷_, _++_, map}
 use Prim.Native.Nat.{ℕ}
-use Rattle.laws.specs.Words.{gather}
 use Rattle.solids.specs.Solids.{Place, Solid, tetrahedron, pyramid, prism, hexahedron, Face, three, four, faces}
-use Rattle.solids.specs.Rows.{hexRows}
 
 -- four places to a face, the fourth of a triangle 0
 abbrev pub padded : Face Place → List Place
@@ -20,7 +18,3 @@ firstFace tetrahedron = 0
 firstFace pyramid = 4
 firstFace prism = 9
 firstFace hexahedron = 14
-
--- the places of all rows of the hexahedron's cuts, one after the other
-unfoldable pub cutPlaces : List Place
-cutPlaces = gather (λ row. row) hexRows

@@ -7,6 +7,7 @@ use mathlib.Core.List.{List, [], _∷_, map}
 use Prim.Native.Nat.{ℕ, _+_, _*_, _-_}
 use lib.Dec.{eqb}
 use lib.ListN.{getD}
+use Rattle.laws.specs.Words.{gather}
 use Rattle.solids.specs.Solids.{Place, Vertex, Tet, tet, onTet, at}
 use Rattle.solids.specs.Cut.{bitsOf, inOrder, first}
 
@@ -78,6 +79,10 @@ hexRows =
     (1 ∷ 2 ∷ 3 ∷ 8 ∷ 1 ∷ 2 ∷ 8 ∷ 5 ∷ 1 ∷ 3 ∷ 4 ∷ 8 ∷ 2 ∷ 3 ∷ 8 ∷ 7 ∷ 2 ∷ 5 ∷ 6 ∷ 8 ∷ 2 ∷ 6 ∷ 7 ∷ 8 ∷ []) ∷
     (1 ∷ 2 ∷ 4 ∷ 8 ∷ 1 ∷ 2 ∷ 8 ∷ 5 ∷ 2 ∷ 3 ∷ 4 ∷ 8 ∷ 2 ∷ 3 ∷ 8 ∷ 7 ∷ 2 ∷ 5 ∷ 6 ∷ 8 ∷ 2 ∷ 6 ∷ 7 ∷ 8 ∷ []) ∷
     []
+
+-- the places of all rows, one row after the other
+unfoldable pub cutPlaces : List Place
+cutPlaces = gather (λ row. row) hexRows
 
 -- the 24 places of a row; none where there is no such row
 unfoldable pub rowPlaces : ℕ → List Place

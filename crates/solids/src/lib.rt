@@ -1,7 +1,7 @@
 // Solids, their cut and how they fit. The definitions stand in specs/, what is proved of them in proofs/Theorems.antt.
 ghost use mathlib.Core.Path.{_≡_};
 ghost use Rattle.solids.specs.Solids.{corners, faceCount, facePlace};
-ghost use Rattle.solids.specs.Rows.{rowPlace};
+ghost use Rattle.solids.specs.Rows.{rowPlace, cutPlaces};
 ghost use Rattle.solids.specs.Loops.{firstFace};
 
 mod tables;
@@ -80,4 +80,11 @@ pub fn row_place(row: usize, at: usize) -> Place
         return Place(0);
     }
     Place(tables::cut_entry(row * 24 + at))
+}
+
+// The hexahedron's cuts whole: the places of all rows, one row after the other.
+pub fn cut_places() -> [u8; 1536]
+    ensures { λ r. ⌜ r ≡ cutPlaces ⌝ }
+{
+    tables::cuts()
 }

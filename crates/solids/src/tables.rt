@@ -3,7 +3,8 @@ ghost use mathlib.Core.Path.{_≡_};
 ghost use mathlib.Core.List.{[]};
 ghost use Prim.Native.Nat.{_<_};
 ghost use lib.ListN.{getD};
-ghost use Rattle.solids.specs.Loops.{faceRows, cutPlaces};
+ghost use Rattle.solids.specs.Rows.{cutPlaces};
+ghost use Rattle.solids.specs.Loops.{faceRows};
 
 // The faces of the tetrahedron, the pyramid, the prism and the hexahedron; the fourth place of a triangle is 0.
 const FACES: [[u8; 4]; 20] = [
@@ -1648,4 +1649,11 @@ pub fn cut_entry(i: usize) -> u8
     ensures { λ r. ⌜ r ≡ getD cutPlaces i 0 ⌝ }
 {
     CUTS[i]
+}
+
+// The whole table of cuts, for a caller that reads many places.
+pub fn cuts() -> [u8; 1536]
+    ensures { λ r. ⌜ r ≡ cutPlaces ⌝ }
+{
+    CUTS
 }

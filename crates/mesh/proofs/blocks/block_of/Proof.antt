@@ -12,24 +12,26 @@ kind-of-requires : tie.Need-kind-of-requires
 kind-of-requires c κs = search needs
 
 row-block-requires : tie.Need-row-block-requires
-row-block-requires c κs = search needs
+row-block-requires c κs =
+    let s = c .before .before .before in
+    (s .pre .0, (sym (c .before .kind-of .ensures) ∙ c .if1 .taken, s .pre .1))
 
 returns : tie.Need-returns
 returns c =
     let r = now (c .before .before .before .before .args .numbers) in
     let e = sym (c .before .before .kind-of .ensures) ∙ c .before .if1 .taken in
-    subst (BlockIs (c .row-block .result)) (cut-by-row r (c .before .before .before .before .pre) e) (c .row-block .ensures)
+    subst (BlockIs (c .row-block .result)) (cut-by-row r (c .before .before .before .before .pre .0) e) (c .row-block .ensures)
 
 fan-block-requires : tie.Need-fan-block-requires
 fan-block-requires c κs =
-    let w = c .before .before .before .pre in
+    let w = c .before .before .before .pre .0 in
     (w, fan-few (now (c .before .before .before .args .numbers)) w (λ e. c .if1 .left (c .before .kind-of .ensures ∙ e)))
 
 returns-2 : tie.Need-returns-2
 returns-2 c =
     let r = now (c .before .before .before .before .args .numbers) in
     let kind = c .before .before .kind-of .ensures in
-    subst (BlockIs (c .fan-block .result)) (cut-by-fan r (c .before .before .before .before .pre) (λ e. c .before .if1 .left (kind ∙ e))) (c .fan-block .ensures)
+    subst (BlockIs (c .fan-block .result)) (cut-by-fan r (c .before .before .before .before .pre .0) (λ e. c .before .if1 .left (kind ∙ e))) (c .fan-block .ensures)
 
 pub block-of-spec : {M : Type 1} → statement M
 block-of-spec =

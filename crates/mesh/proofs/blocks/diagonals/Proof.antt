@@ -1,86 +1,134 @@
--- The loop goes from the last face to the first; it keeps the choice of the faces behind it.
+-- Face by face, from the last to the first.
 -- Assumes nothing.
-use mathlib.Core.Path.{_≡_, refl, sym, ap, _∙_}
-use mathlib.Core.List.{List, _∷_}
-use Prim.Native.Nat.{ℕ, suc, _-_, _≤_, _<_}
+use mathlib.Core.List.{List, [], _∷_}
+use Prim.Native.Nat.{ℕ}
 use native.Mathlib.Omega.{arith}
 use denote.Ref.{now}
 use borrow.Author.Needs.{needs}
-use lib.ListN.{drop}
-use Rattle.solids.specs.declared.Solid.the-variants.{Hexahedron}
-use Rattle.solids.specs.Solids.{Face, element, facesOf}
+use Rattle.solids.specs.Solids.{Face, four, at}
 use Rattle.records.specs.Record.{usedOf}
-use Rattle.mesh.specs.BlockLoops.{faceIn, choice, withBit}
-use Rattle.mesh.proofs.FaceLaws.{face-next}
-use Rattle.mesh.proofs.ChoiceLaws.{choice-next, choice-drop}
+use Rattle.mesh.specs.BlockLoops.{faceOf}
+use Rattle.mesh.proofs.ChoiceLaws.{bit-most, choice-more, choice-none}
 use Rattle.mesh.proofs.blocks.diagonals.Statement.{statement}
 use Rattle.mesh.proofs.blocks.diagonals.Tie as tie
 
-abbrev facesIn : List ℕ → List (Face ℕ)
-facesIn vs = facesOf (element Hexahedron vs)
+abbrev face : List ℕ → ℕ → ℕ → ℕ → ℕ → Face ℕ
+face vs p q r s = four (at vs p) (at vs q) (at vs r) (at vs s)
 
-record Kept (vs : List ℕ) (low high number i : ℕ) : Type 0 where
-  up : i ≤ 6
-  same : number ≡ choice low high (drop i (facesIn vs))
+four-at-requires : tie.Need-four-at-requires
+four-at-requires c κs = search needs
 
-module _ {vs : List ℕ} {low high n i : ℕ} (k : Kept vs low high n i) where
-  few : choice low high (facesIn vs) ≤ 7 → n ≤ 7
-  few h = omega (arith, k .same, choice-drop low high i (facesIn vs))
+with-bit-requires : tie.Need-with-bit-requires
+with-bit-requires c κs = omega (arith)
 
-  step : 0 < i → {F : Face ℕ} {m : ℕ} → m ≡ withBit low high F n → F ≡ faceIn Hexahedron vs (i - 1) → Kept vs low high m (i - 1)
-  step h {F} {m} e f =
-      let s : suc (i - 1) ≡ i = omega arith in
-      let d : drop (i - 1) (facesIn vs) ≡ faceIn Hexahedron vs (i - 1) ∷ drop i (facesIn vs) =
-      face-next Hexahedron vs (i - 1) (omega (arith, k .up)) ∙ ap (λ (j : ℕ). faceIn Hexahedron vs (i - 1) ∷ drop j (facesIn vs)) s in
-      record {
-        up = omega (arith, k .up);
-        same =
-            e ∙ (λ j. withBit low high (f j) (k .same j)) ∙ sym (choice-next low high (faceIn Hexahedron vs (i - 1)) (drop i (facesIn vs)))
-            ∙ ap (choice low high) (sym d);
-      }
+four-at-requires-2 : tie.Need-four-at-requires-2
+four-at-requires-2 c κs = search needs
 
-abbrev Inv-loop : tie.InvT-loop
-Inv-loop numbers low high number₀ i₀ number i = Kept (usedOf numbers) (low .0) (high .0) number i
+with-bit-requires-2 : tie.Need-with-bit-requires-2
+with-bit-requires-2 c κs =
+    let a = c .before .before .before .before .args in
+    omega (
+      arith,
+      c .before .with-bit .ensures,
+      bit-most (a .low .0) (a .high .0) (faceOf (c .before .before .four-at .result)) 0,
+    )
 
-abbrev μ-loop : tie.MeasureT-loop
-μ-loop numbers low high number₀ i₀ number i = i
+four-at-requires-3 : tie.Need-four-at-requires-3
+four-at-requires-3 c κs = search needs
 
-loop-holds : tie.Need-loop-holds Inv-loop μ-loop
-unfolding choice
-loop-holds c = record { up = omega arith; same = refl }
+with-bit-requires-3 : tie.Need-with-bit-requires-3
+with-bit-requires-3 c κs =
+    let a = c .before .before .before .before .before .before .args in
+    omega (
+      arith,
+      c .before .before .before .with-bit .ensures,
+      bit-most (a .low .0) (a .high .0) (faceOf (c .before .before .before .before .four-at .result)) 0,
+      c .before .with-bit2 .ensures,
+      bit-most (a .low .0) (a .high .0) (faceOf (c .before .before .four-at2 .result)) (c .before .before .before .with-bit .result),
+    )
 
-sub-i : tie.Need-sub-i Inv-loop μ-loop
-sub-i c = omega arith
+four-at-requires-4 : tie.Need-four-at-requires-4
+four-at-requires-4 c κs = search needs
 
-face-of-requires : tie.Need-face-of-requires Inv-loop μ-loop
-face-of-requires c κs = search needs
+with-bit-requires-4 : tie.Need-with-bit-requires-4
+with-bit-requires-4 c κs =
+    let a = c .before .before .before .before .before .before .before .before .args in
+    omega (
+      arith,
+      c .before .before .before .before .before .with-bit .ensures,
+      bit-most (a .low .0) (a .high .0) (faceOf (c .before .before .before .before .before .before .four-at .result)) 0,
+      c .before .before .before .with-bit2 .ensures,
+      bit-most (a .low .0) (a .high .0) (faceOf (c .before .before .before .before .four-at2 .result)) (c .before .before .before .before .before .with-bit .result),
+      c .before .with-bit3 .ensures,
+      bit-most (a .low .0) (a .high .0) (faceOf (c .before .before .four-at3 .result)) (c .before .before .before .with-bit2 .result),
+    )
 
-with-bit-requires : tie.Need-with-bit-requires Inv-loop μ-loop
-with-bit-requires c κs = few (c .before .before .loop .inv) (c .before .before .before .before .pre)
+four-at-requires-5 : tie.Need-four-at-requires-5
+four-at-requires-5 c κs = search needs
 
-loop-less : tie.Need-loop-less Inv-loop μ-loop
-loop-less c = omega arith
+with-bit-requires-5 : tie.Need-with-bit-requires-5
+with-bit-requires-5 c κs =
+    let a = c .before .before .before .before .before .before .before .before .before .before .args in
+    omega (
+      arith,
+      c .before .before .before .before .before .before .before .with-bit .ensures,
+      bit-most (a .low .0) (a .high .0) (faceOf (c .before .before .before .before .before .before .before .before .four-at .result)) 0,
+      c .before .before .before .before .before .with-bit2 .ensures,
+      bit-most (a .low .0) (a .high .0) (faceOf (c .before .before .before .before .before .before .four-at2 .result)) (c .before .before .before .before .before .before .before .with-bit .result),
+      c .before .before .before .with-bit3 .ensures,
+      bit-most (a .low .0) (a .high .0) (faceOf (c .before .before .before .before .four-at3 .result)) (c .before .before .before .before .before .with-bit2 .result),
+      c .before .with-bit4 .ensures,
+      bit-most (a .low .0) (a .high .0) (faceOf (c .before .before .four-at4 .result)) (c .before .before .before .with-bit3 .result),
+    )
 
-loop-again : tie.Need-loop-again Inv-loop μ-loop
-loop-again c = step (c .before .before .before .loop .inv) (c .before .before .loop-test .taken) (c .with-bit .ensures) (c .before .face-of .ensures)
+four-at-requires-6 : tie.Need-four-at-requires-6
+four-at-requires-6 c κs = search needs
 
-returns : tie.Need-returns Inv-loop μ-loop
+with-bit-requires-6 : tie.Need-with-bit-requires-6
+with-bit-requires-6 c κs =
+    let a = c .before .before .before .before .before .before .before .before .before .before .before .before .args in
+    omega (
+      arith,
+      c .before .before .before .before .before .before .before .before .before .with-bit .ensures,
+      bit-most (a .low .0) (a .high .0) (faceOf (c .before .before .before .before .before .before .before .before .before .before .four-at .result)) 0,
+      c .before .before .before .before .before .before .before .with-bit2 .ensures,
+      bit-most (a .low .0) (a .high .0) (faceOf (c .before .before .before .before .before .before .before .before .four-at2 .result)) (c .before .before .before .before .before .before .before .before .before .with-bit .result),
+      c .before .before .before .before .before .with-bit3 .ensures,
+      bit-most (a .low .0) (a .high .0) (faceOf (c .before .before .before .before .before .before .four-at3 .result)) (c .before .before .before .before .before .before .before .with-bit2 .result),
+      c .before .before .before .with-bit4 .ensures,
+      bit-most (a .low .0) (a .high .0) (faceOf (c .before .before .before .before .four-at4 .result)) (c .before .before .before .before .before .with-bit3 .result),
+      c .before .with-bit5 .ensures,
+      bit-most (a .low .0) (a .high .0) (faceOf (c .before .before .four-at5 .result)) (c .before .before .before .with-bit4 .result),
+    )
+
+returns : tie.Need-returns
 returns c =
-    let a = c .before .before .before .args in
-    let z : c .before .loop .i ≡ 0 = omega arith in
-    let fs = facesIn (usedOf (now (a .numbers))) in
-    c .before .loop .inv .same ∙ ap (λ (i : ℕ). choice (a .low .0) (a .high .0) (drop i fs)) z
+    let a = c .before .before .before .before .before .before .before .before .before .before .before .before .before .args in
+    let vs = usedOf (now (a .numbers)) in
+    let low = a .low .0 in
+    let high = a .high .0 in
+    let n1 = choice-more low high (face vs 3 4 8 7) [] (c .before .before .before .before .before .before .before .before .before .before .with-bit .ensures) (c .before .before .before .before .before .before .before .before .before .before .before .four-at .ensures) (choice-none low high) in
+    let n2 = choice-more low high (face vs 5 6 7 8) ((face vs 3 4 8 7) ∷ []) (c .before .before .before .before .before .before .before .before .with-bit2 .ensures) (c .before .before .before .before .before .before .before .before .before .four-at2 .ensures) (n1) in
+    let n3 = choice-more low high (face vs 2 3 7 6) ((face vs 5 6 7 8) ∷ (face vs 3 4 8 7) ∷ []) (c .before .before .before .before .before .before .with-bit3 .ensures) (c .before .before .before .before .before .before .before .four-at3 .ensures) (n2) in
+    let n4 = choice-more low high (face vs 1 5 8 4) ((face vs 2 3 7 6) ∷ (face vs 5 6 7 8) ∷ (face vs 3 4 8 7) ∷ []) (c .before .before .before .before .with-bit4 .ensures) (c .before .before .before .before .before .four-at4 .ensures) (n3) in
+    let n5 = choice-more low high (face vs 1 2 6 5) ((face vs 1 5 8 4) ∷ (face vs 2 3 7 6) ∷ (face vs 5 6 7 8) ∷ (face vs 3 4 8 7) ∷ []) (c .before .before .with-bit5 .ensures) (c .before .before .before .four-at5 .ensures) (n4) in
+    let n6 = choice-more low high (face vs 1 4 3 2) ((face vs 1 2 6 5) ∷ (face vs 1 5 8 4) ∷ (face vs 2 3 7 6) ∷ (face vs 5 6 7 8) ∷ (face vs 3 4 8 7) ∷ []) (c .with-bit6 .ensures) (c .before .four-at6 .ensures) (n5) in
+    n6
 
 pub diagonals-spec : {M : Type 1} → statement M
 diagonals-spec =
     tie.close
     (tie.spec
-    Inv-loop
-    μ-loop
-    loop-holds
-    sub-i
-    face-of-requires
+    four-at-requires
     with-bit-requires
-    loop-less
-    loop-again
+    four-at-requires-2
+    with-bit-requires-2
+    four-at-requires-3
+    with-bit-requires-3
+    four-at-requires-4
+    with-bit-requires-4
+    four-at-requires-5
+    with-bit-requires-5
+    four-at-requires-6
+    with-bit-requires-6
     returns)

@@ -39,13 +39,13 @@ module _ {vs : List ℕ} {row : ℕ} {b : Block} {k : ℕ} (h : Kept vs row b k)
       }
 
 abbrev Inv-loop : tie.InvT-loop
-Inv-loop numbers row block₀ k₀ block k = Kept (usedOf numbers) row block k
+Inv-loop numbers cuts row block₀ k₀ block k = Kept (usedOf numbers) row block k
 
 abbrev μ-loop : tie.MeasureT-loop
-μ-loop numbers row block₀ k₀ block k = k
+μ-loop numbers cuts row block₀ k₀ block k = k
 
 row-of-requires : tie.Need-row-of-requires Inv-loop μ-loop
-row-of-requires c κs = c .before .pre
+row-of-requires c κs = (c .before .pre .0, c .before .pre .1 .0)
 
 no-tets-requires : tie.Need-no-tets-requires Inv-loop μ-loop
 no-tets-requires c κs = search needs
@@ -54,7 +54,7 @@ loop-holds : tie.Need-loop-holds Inv-loop μ-loop
 loop-holds c =
     let r = now (c .before .before .before .args .numbers) in
     let e = c .before .row-of .ensures in
-    let l : c .before .row-of .result < 64 = omega (arith, e, row-below r (c .before .before .before .pre .0) (c .before .before .before .pre .1)) in
+    let l : c .before .row-of .result < 64 = omega (arith, e, row-below r (c .before .before .before .pre .0) (c .before .before .before .pre .1 .0)) in
     record {
       below = l;
       row-is = e;
@@ -66,7 +66,9 @@ sub-k : tie.Need-sub-k Inv-loop μ-loop
 sub-k c = omega arith
 
 with-row-tet-requires : tie.Need-with-row-tet-requires Inv-loop μ-loop
-with-row-tet-requires c κs = (omega (arith, c .before .loop .inv .room), omega (arith, c .before .loop .inv .room))
+with-row-tet-requires c κs =
+    let h = c .before .loop .inv in
+    (c .before .before .before .before .before .pre .1 .1, (h .below, (omega (arith, h .room), omega (arith, h .room))))
 
 loop-less : tie.Need-loop-less Inv-loop μ-loop
 loop-less c = omega arith

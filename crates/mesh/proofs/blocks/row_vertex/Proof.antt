@@ -8,14 +8,14 @@ use borrow.Author.Needs.{needs}
 use Rattle.mesh.proofs.blocks.row_vertex.Statement.{statement}
 use Rattle.mesh.proofs.blocks.row_vertex.Tie as tie
 
-row-place-requires : tie.Need-row-place-requires
-row-place-requires c κs = search needs
+place-in-requires : tie.Need-place-in-requires
+place-in-requires c κs = search needs
 
 vertex-at-requires : tie.Need-vertex-at-requires
 vertex-at-requires c κs = search needs
 
 returns : tie.Need-returns
-returns c = c .vertex-at .ensures ∙ ap (at (usedOf (now (c .before .before .before .args .numbers)))) (c .before .row-place .ensures)
+returns c = c .vertex-at .ensures ∙ ap (at (usedOf (now (c .before .before .before .args .numbers)))) (c .before .place-in .ensures)
 
 pub row-vertex-spec : {M : Type 1} → statement M
-row-vertex-spec = tie.close (tie.spec row-place-requires vertex-at-requires returns)
+row-vertex-spec = tie.close (tie.spec place-in-requires vertex-at-requires returns)

@@ -12,16 +12,16 @@ use borrow.Author.Needs.{needs}
 use Rattle.mesh.proofs.blocks.with_row_tet.Statement.{statement}
 use Rattle.mesh.proofs.blocks.with_row_tet.Tie as tie
 
-mul-row-place : tie.Need-mul-row-place
-mul-row-place c = search needs
+mul-place-in : tie.Need-mul-place-in
+mul-place-in c = search needs
 
-row-place-requires : tie.Need-row-place-requires
-row-place-requires c κs = search needs
+place-in-requires : tie.Need-place-in-requires
+place-in-requires c κs = search needs
 
 returns : tie.Need-returns
 returns c =
     let a = c .before .before .before .before .args in
-    let zero = sym (c .before .before .row-place .ensures) ∙ c .if1 .taken in
+    let zero = sym (c .before .before .place-in .ensures) ∙ c .if1 .taken in
     rw (row-none (usedOf (now (a .numbers))) (a .row) (a .k) (eq-eqb _ _ zero)) (grown-none (a .block))
 
 row-tet-requires : tie.Need-row-tet-requires
@@ -33,11 +33,11 @@ added-requires c κs = search needs
 returns-2 : tie.Need-returns-2
 returns-2 c =
     let a = c .before .before .before .before .before .before .args in
-    let place = c .before .before .before .before .row-place .ensures in
+    let place = c .before .before .before .before .place-in .ensures in
     let one = row-one (usedOf (now (a .numbers))) (a .row) (a .k) (ne-eqb _ _ (λ e. c .before .before .if1 .left (place ∙ e))) in
     subst (λ l. Grown (a .block) l (c .added .result)) (ap (λ t. t ∷ []) (c .before .row-tet .ensures) ∙ sym one) (c .added .ensures)
 
 pub with-row-tet-spec : {M : Type 1} → statement M
 with-row-tet-spec =
     tie.close
-    (tie.spec mul-row-place row-place-requires returns row-tet-requires added-requires returns-2)
+    (tie.spec mul-place-in place-in-requires returns row-tet-requires added-requires returns-2)

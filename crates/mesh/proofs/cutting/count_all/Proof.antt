@@ -9,8 +9,7 @@ use lib.ListN.{length}
 use Rattle.solids.specs.Cut.{cut}
 use Rattle.records.specs.Record.{elementOf, recordAt}
 use Rattle.records.specs.Loops.{Whole, WholeTable}
-use Rattle.mesh.specs.declared.blocks.Block.{Block}
-use Rattle.mesh.specs.BlockLoops.{BlockIs}
+use Rattle.mesh.proofs.RecordCutLaws.{cut-few}
 use Rattle.mesh.proofs.MeshCutLaws.{cutTo, cut-none, count-next}
 use Rattle.mesh.proofs.cutting.count_all.Statement.{statement}
 use Rattle.mesh.proofs.cutting.count_all.Tie as tie
@@ -21,15 +20,20 @@ record Kept (t : List ℕ) (n count k : ℕ) : Type 0 where
   few : count ≤ 6 * k
   same : count ≡ length (cutTo t k)
 
-step : {t : List ℕ} {n count k : ℕ} → Kept t n count k → k < n → {r : List ℕ} {b : Block} → r ≡ recordAt t k → BlockIs b (cut (elementOf r)) → Kept t n (count + b .count) (k + 1)
-step {t} {k} h l e b =
-    let m = ap (λ x. length (cut (elementOf x))) (sym e) ∙ b .many in
-    record {
-      table = h .table;
-      up = omega arith;
-      few = omega (arith, h .few, b .few);
-      same = omega (arith, h .same, count-next t k);
-    }
+module _ {t : List ℕ} {n count k : ℕ} (h : Kept t n count k) (l : k < n) {r : List ℕ} {m : ℕ} (e : r ≡ recordAt t k) (f : m ≡ length (cut (elementOf r))) where
+  here : m ≡ length (cut (elementOf (recordAt t k)))
+  here = f ∙ ap (λ x. length (cut (elementOf x))) e
+
+  few-more : m ≤ 6
+  few-more = omega (arith, here, cut-few (recordAt t k) (h .table .whole k l))
+
+  step : Kept t n (count + m) (k + 1)
+  step = record {
+    table = h .table;
+    up = omega arith;
+    few = omega (arith, h .few, few-more);
+    same = omega (arith, here, h .same, count-next t k);
+  }
 
 abbrev Inv-loop : tie.InvT-loop
 Inv-loop table n count₀ k₀ count k = Kept table n count k
@@ -43,20 +47,23 @@ loop-holds c = record { table = c .before .pre; up = omega arith; few = omega ar
 record-at-requires : tie.Need-record-at-requires Inv-loop μ-loop
 record-at-requires c κs = omega (arith, c .before .before .before .pre .long)
 
-block-of-requires : tie.Need-block-of-requires Inv-loop μ-loop
-block-of-requires c κs = subst Whole (sym (c .record-at .ensures)) (c .before .before .before .before .pre .whole (c .before .before .loop .k) (c .before .loop-test .taken))
+count-of-requires : tie.Need-count-of-requires Inv-loop μ-loop
+count-of-requires c κs = subst Whole (sym (c .record-at .ensures)) (c .before .before .before .before .pre .whole (c .before .before .loop .k) (c .before .loop-test .taken))
 
 add-count : tie.Need-add-count Inv-loop μ-loop
-add-count c = omega (arith, c .before .block-of .ensures .few, c .before .before .before .before .loop .inv .few, c .before .before .before .before .before .before .pre .few)
+add-count c =
+    let h = c .before .before .before .loop .inv in
+    let more = few-more h (c .before .before .loop-test .taken) (c .before .record-at .ensures) (c .count-of .ensures) in
+    omega (arith, more, h .few, c .before .before .before .before .before .pre .few)
 
 add-k : tie.Need-add-k Inv-loop μ-loop
-add-k c = omega (arith, c .before .before .before .before .before .before .pre .few)
+add-k c = omega (arith, c .before .before .before .before .before .pre .few)
 
 loop-less : tie.Need-loop-less Inv-loop μ-loop
 loop-less c = omega arith
 
 loop-again : tie.Need-loop-again Inv-loop μ-loop
-loop-again c = step (c .before .before .before .before .loop .inv) (c .before .before .before .loop-test .taken) (c .before .before .record-at .ensures) (c .before .block-of .ensures)
+loop-again c = step (c .before .before .before .loop .inv) (c .before .before .loop-test .taken) (c .before .record-at .ensures) (c .count-of .ensures)
 
 returns : tie.Need-returns Inv-loop μ-loop
 returns c =
@@ -72,7 +79,7 @@ count-all-spec =
     μ-loop
     loop-holds
     record-at-requires
-    block-of-requires
+    count-of-requires
     add-count
     add-k
     loop-less

@@ -11,12 +11,12 @@ use Rattle.mesh.proofs.cutting.put_element.Statement.{statement}
 use Rattle.mesh.proofs.cutting.put_element.Tie as tie
 
 block-of-requires : tie.Need-block-of-requires
-block-of-requires c κs = search needs
+block-of-requires c κs = (c .before .before .pre .0, c .before .before .pre .1 .0)
 
 put-tets-requires : tie.Need-put-tets-requires
 put-tets-requires c κs =
     let h = c .before .before .block-of .ensures in
-    (omega (arith, h .few), omega (arith, h .many, c .before .before .before .before .before .pre .1))
+    (omega (arith, h .few), omega (arith, h .many, c .before .before .before .before .before .pre .1 .1))
 
 same-length : tie.Need-same-length
 same-length c = search needs

@@ -6,7 +6,7 @@ use denote.Ref.{now}
 use Rattle.records.specs.Record.{elementOf}
 use Rattle.mesh.specs.SignLoops.{SitedBlock}
 use Rattle.mesh.proofs.SiteLaws.{block-sited}
-use Rattle.mesh.proofs.SignLaws.{counts-of-one}
+use Rattle.mesh.proofs.SignLaws.{sound-by-tally, counts-of-one}
 use Rattle.mesh.proofs.signs.element_counts.Statement.{statement}
 use Rattle.mesh.proofs.signs.element_counts.Tie as tie
 
@@ -14,32 +14,36 @@ use Rattle.mesh.proofs.signs.element_counts.Tie as tie
 sites : (c : tie.After-block-of) → SitedBlock (now (c .before .before .args .vertices)) (c .block-of .result)
 sites c =
     let s = c .before .before in
-    block-sited (now (s .args .vertices)) (now (s .args .numbers)) (s .pre .0) (s .pre .1) (c .block-of .ensures)
+    block-sited (now (s .args .vertices)) (now (s .args .numbers)) (s .pre .0) (s .pre .1 .1) (c .block-of .ensures)
 
 block-of-requires : tie.Need-block-of-requires
-block-of-requires c κs = search needs
+block-of-requires c κs = (c .before .pre .0, c .before .pre .1 .0)
 
 tally-block-requires : tie.Need-tally-block-requires
 tally-block-requires c κs = sites c
 
-sound-block-requires : tie.Need-sound-block-requires
-sound-block-requires c κs = sites (c .before)
+is-sound-requires : tie.Need-is-sound-requires
+is-sound-requires c κs = search needs
 
 returns : tie.Need-returns
 returns c =
     let s = c .before .before .before .before .before in
+    let e = elementOf (now (s .args .numbers)) in
     let b = c .before .before .before .block-of .ensures in
-    counts-of-one (now (s .args .vertices)) (elementOf (now (s .args .numbers))) b (c .before .before .tally-block .ensures)
-    (rw (sym (c .before .sound-block .ensures .same (elementOf (now (s .args .numbers))) b) ∙ c .if1 .taken))
+    let t = c .before .before .tally-block .ensures in
+    counts-of-one (now (s .args .vertices)) e b t
+    (rw (sym (sound-by-tally (now (s .args .vertices)) e b t) ∙ sym (c .before .is-sound .ensures) ∙ c .if1 .taken))
 
 returns-2 : tie.Need-returns-2
 returns-2 c =
     let s = c .before .before .before .before .before in
+    let e = elementOf (now (s .args .numbers)) in
     let b = c .before .before .before .block-of .ensures in
-    counts-of-one (now (s .args .vertices)) (elementOf (now (s .args .numbers))) b (c .before .before .tally-block .ensures)
-    (rw (sym (c .before .sound-block .ensures .same (elementOf (now (s .args .numbers))) b) ∙ c .if1 .left))
+    let t = c .before .before .tally-block .ensures in
+    counts-of-one (now (s .args .vertices)) e b t
+    (rw (sym (sound-by-tally (now (s .args .vertices)) e b t) ∙ sym (c .before .is-sound .ensures) ∙ c .if1 .left))
 
 pub element-counts-spec : {M : Type 1} → statement M
 element-counts-spec =
     tie.close
-    (tie.spec block-of-requires tally-block-requires sound-block-requires returns returns-2)
+    (tie.spec block-of-requires tally-block-requires is-sound-requires returns returns-2)

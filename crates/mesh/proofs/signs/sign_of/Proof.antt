@@ -6,8 +6,8 @@ use lib.Dec.{T}
 use mir.Facts.{toZ-ofZ}
 use Rattle.mesh.specs.declared.signs.Sign.{Sign}
 use Rattle.mesh.specs.declared.signs.Sign.the-variants.{Positive, Zero, Negative}
-use Rattle.mesh.specs.SignLoops.{signOf, isPlus}
-use Rattle.mesh.proofs.SignLaws.{isMinus, plus-sign, minus-sign}
+use Rattle.mesh.specs.SignLoops.{signOf}
+use Rattle.mesh.proofs.SignLaws.{isPlus, isMinus, plus-sign, minus-sign}
 use Rattle.mesh.proofs.signs.sign_of.Statement.{statement}
 use Rattle.mesh.proofs.signs.sign_of.Tie as tie
 

@@ -2,8 +2,7 @@
 -- Assumes nothing.
 use borrow.Author.Needs.{needs}
 use mathlib.Core.Path.{refl}
-use Rattle.solids.specs.Rows.{hexRows}
-use Rattle.solids.specs.Loops.{cutPlaces}
+use Rattle.solids.specs.Rows.{hexRows, cutPlaces}
 use Rattle.solids.proofs.tables.cut_entry.Statement.{statement}
 use Rattle.solids.proofs.tables.cut_entry.Tie as tie
 
