@@ -1,0 +1,31 @@
+-- `brine::brine_write_element` tells what `text::write::write_element` answers, and leaves what it leaves. Assumes nothing.
+use mathlib.Core.Path.{_≡_}
+use lib.ListN.{length}
+use Rattle.brine.proofs.FrontLaws.{answered}
+use borrow.Author.Needs.{needs}
+use Rattle.brine.proofs.brine_write_element.Statement.{statement}
+use Rattle.brine.proofs.brine_write_element.Tie as tie
+
+write-element-requires : tie.Need-write-element-requires
+write-element-requires c κs = search needs
+
+of-write-requires : tie.Need-of-write-requires
+of-write-requires c κs = search needs
+
+tell-requires : tie.Need-tell-requires
+tell-requires c κs = search needs
+
+same-length : tie.Need-same-length
+same-length c = search needs
+
+returns : tie.Need-returns
+returns c =
+    let a = c .before .before .before .before .before .before .before .before .before .args in
+    let told = c .before .before .of-write in
+    let entry = c .before .before .before .before .before .write-element in
+    let size : length (a .answer .now) ≡ 4 = search needs in
+    record { answered = answered 1 (told .result) (a .answer .now) (told .ensures) (entry .ensures .answer) size (c .tell .ensures .0) (c .tell .ensures .1); left = entry .ensures .buffer }
+
+pub brine-write-element-spec : {M : Type 1} → statement M
+brine-write-element-spec =
+    tie.close (tie.spec write-element-requires of-write-requires tell-requires same-length returns)

@@ -1,0 +1,49 @@
+-- `brine::told::of_read` tells what reading answers. Assumes nothing.
+use mathlib.Core.Path.{refl, ap}
+use Rattle.faults.specs.Refusals.{answerOf}
+use Rattle.text.specs.Records.{verdictOf}
+use Rattle.brine.proofs.FrontLaws.{fewer}
+use borrow.Author.Needs.{needs}
+use Rattle.brine.proofs.told.of_read.Statement.{statement}
+use Rattle.brine.proofs.told.of_read.Tie as tie
+use Rattle.brine.proofs.told.of_read.Reads as reads
+use Rattle.brine.proofs.told.of_read.Lts as lts
+use Rattle.brine.proofs.told.done.Reads as done-reads
+use Rattle.brine.proofs.told.refused.Reads as refused-reads
+
+-- src/told.rt:56:26
+enum-known-answer : tie.Need-enum-known-answer
+enum-known-answer c = search needs
+
+-- src/told.rt:56:37
+done-requires : tie.Need-done-requires
+done-requires c κs = search needs
+
+-- src/told.rt:57:29
+enum-known-answer-2 : tie.Need-enum-known-answer-2
+enum-known-answer-2 c = search needs
+
+-- src/told.rt:57:41
+refused-requires : tie.Need-refused-requires
+refused-requires c κs = search needs
+
+-- src/told.rt:52:1
+returns : tie.Need-returns
+unfolding answerOf verdictOf
+returns c = fewer 2 (c .done .result) _ _ (ap verdictOf (c .before .before .answer .given .1)) (search needs) refl refl (c .done .ensures)
+
+-- src/told.rt:52:1
+returns-2 : tie.Need-returns-2
+unfolding answerOf verdictOf
+returns-2 c = fewer 2 (c .refused .result) _ _ (ap verdictOf (c .before .before .answer2 .given .1)) (search needs) refl refl (c .refused .ensures)
+
+pub of-read-spec : {M : Type 1} → statement M
+of-read-spec =
+    tie.close
+    (tie.spec
+    enum-known-answer
+    done-requires
+    enum-known-answer-2
+    refused-requires
+    returns
+    returns-2)

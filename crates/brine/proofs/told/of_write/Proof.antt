@@ -1,0 +1,49 @@
+-- `brine::told::of_write` tells what a writer answers. Assumes nothing.
+use mathlib.Core.Path.{refl, ap}
+use Rattle.faults.specs.Refusals.{answerOf}
+use Rattle.text.specs.Writing.{writeVerdict}
+use Rattle.brine.proofs.FrontLaws.{fewer}
+use borrow.Author.Needs.{needs}
+use Rattle.brine.proofs.told.of_write.Statement.{statement}
+use Rattle.brine.proofs.told.of_write.Tie as tie
+use Rattle.brine.proofs.told.of_write.Reads as reads
+use Rattle.brine.proofs.told.of_write.Lts as lts
+use Rattle.brine.proofs.told.done.Reads as done-reads
+use Rattle.brine.proofs.told.refused.Reads as refused-reads
+
+-- src/told.rt:101:27
+enum-known-answer : tie.Need-enum-known-answer
+enum-known-answer c = search needs
+
+-- src/told.rt:101:38
+done-requires : tie.Need-done-requires
+done-requires c κs = search needs
+
+-- src/told.rt:102:30
+enum-known-answer-2 : tie.Need-enum-known-answer-2
+enum-known-answer-2 c = search needs
+
+-- src/told.rt:102:42
+refused-requires : tie.Need-refused-requires
+refused-requires c κs = search needs
+
+-- src/told.rt:97:1
+returns : tie.Need-returns
+unfolding answerOf writeVerdict
+returns c = fewer 1 (c .done .result) _ _ (ap writeVerdict (c .before .before .answer .given .1)) (search needs) refl refl (c .done .ensures)
+
+-- src/told.rt:97:1
+returns-2 : tie.Need-returns-2
+unfolding answerOf writeVerdict
+returns-2 c = fewer 1 (c .refused .result) _ _ (ap writeVerdict (c .before .before .answer2 .given .1)) (search needs) refl refl (c .refused .ensures)
+
+pub of-write-spec : {M : Type 1} → statement M
+of-write-spec =
+    tie.close
+    (tie.spec
+    enum-known-answer
+    done-requires
+    enum-known-answer-2
+    refused-requires
+    returns
+    returns-2)
