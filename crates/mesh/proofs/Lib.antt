@@ -1,6 +1,7 @@
 -- What is proved of tables.
 pub mod FitFaceLaws
 pub mod FittingLaws
+pub mod ChainLaws
 pub mod JudgeLaws
 pub mod VerdictLaws
 pub mod EntryLaws

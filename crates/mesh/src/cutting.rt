@@ -16,6 +16,7 @@ ghost use Rattle.records.specs.Record.{elementOf, firstElements};
 ghost use Rattle.records.specs.Loops.{Whole, WholeTable};
 ghost use Rattle.mesh.specs.Cutting.{tetWidth, flat};
 ghost use Rattle.mesh.specs.BlockLoops.{tetOf, Stored, Counted};
+ghost use Rattle.mesh.specs.FitLoops.{Numbered};
 ghost use Rattle.mesh.specs.CutLoops.{storedUnder, withCount, PairsCut};
 
 // How many numbers a tetrahedron of the output has.
@@ -131,7 +132,7 @@ fn with_count(answer: JudgeAnswer, count: usize) -> CutAnswer
 
 // Cuts a table of faultless records: its pairs are judged, then the output's room; a refusal stores nothing.
 pub fn cut_records(table: &[u16], n: usize, out: &mut [u16]) -> CutAnswer
-    requires { ⌜ WholeTable (now table) n ⌝ }
+    requires { ⌜ Numbered (now table) n ⌝ }
     ensures { λ r. ⌜ PairsCut (now (table .entry)) «n» (now (out .entry)) r (now (out .exit)) ⌝ }
 {
     let count = count_all(table, n);

@@ -1,7 +1,9 @@
 // Whether the elements of a table fit together: the search for the first pair that does not fit. The verdict of a pair stands in pair.rt.
 ghost use mathlib.Core.Path.{_≡_};
 ghost use Rattle.mesh.specs.Judge.{misfit, badElement};
+ghost use Rattle.mesh.specs.FitLoops.{Numbered};
 
+mod chains;
 mod corners;
 mod cycles;
 mod pair;
@@ -24,13 +26,17 @@ pub fn misfit_of(table: &[u16], j: usize) -> usize
 
 // The number, from 1, of the lowest of n elements that has a misfit, or 0.
 pub fn bad_element(table: &[u16], n: usize) -> usize
+    requires { ⌜ Numbered (now table) n ⌝ }
     ensures { λ r. ⌜ r ≡ badElement (now (table .entry)) n ⌝ }
 {
+    let mut heads = [0u16; 4097];
+    let mut links = [0u16; 9216];
     let mut j = 0;
     while j < n {
-        if 0 < misfit_of(table, j) {
+        if !chains::fits_all(table, j, &heads, &links) {
             return j + 1;
         }
+        chains::file_places(table, j, &mut heads, &mut links);
         j += 1;
     }
     0

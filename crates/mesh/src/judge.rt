@@ -4,6 +4,7 @@ ghost use Prim.Native.Nat.{_<_, pred};
 ghost use Rattle.faults.specs.Refusals.{refuse, refusePair};
 ghost use Rattle.records.specs.Record.{recordFinding, recordAt};
 ghost use Rattle.mesh.specs.Judge.{badRecord, isFault, faultIn, misfit};
+ghost use Rattle.mesh.specs.FitLoops.{Numbered};
 ghost use Rattle.mesh.specs.JudgeLoops.{answerFrom, firstRefusal, roomAnswer, pairsJudged, RecordsJudging, Judging};
 use crate::JudgeAnswer;
 use crate::fit;
@@ -111,6 +112,7 @@ pub fn judge_records(vertex_count: usize, element_count: usize, elements: &[u16]
 
 // The pairs, by lowest j and then lowest i.
 pub fn judge_pairs(elements: &[u16], element_count: usize) -> JudgeAnswer
+    requires { ⌜ Numbered (now elements) «element_count» ⌝ }
     ensures { λ r. ⌜ r ≡ answerFrom (pairsJudged (now (elements .entry)) «element_count») ⌝ }
 {
     let j = fit::bad_element(elements, element_count);

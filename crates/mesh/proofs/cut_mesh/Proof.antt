@@ -1,6 +1,7 @@
 -- `mesh::cut_mesh` meets its contract: refused as its records are judged, or as its pairs and the output's room say, or cut.
 -- Assumes nothing.
 use borrow.Author.Needs.{needs}
+use Rattle.mesh.proofs.ChainLaws.{recorded-numbered}
 use Rattle.mesh.proofs.EntryLaws.{records-at, cut-refused, cut-recorded}
 use Rattle.mesh.proofs.cut_mesh.Statement.{statement}
 use Rattle.mesh.proofs.cut_mesh.Tie as tie
@@ -17,7 +18,8 @@ enum-told c = search needs
 cut-records-requires : tie.Need-cut-records-requires
 cut-records-requires c κs =
     let a = c .before .before .before .before .before .before .args in
-    records-at (a .vertex-count) (a .element-count) (a .elements .now) (c .before .enum-told .given .1) (c .before .before .before .judge-records .ensures) .table
+    recorded-numbered (a .vertex-count) (a .element-count) (a .elements .now)
+    (records-at (a .vertex-count) (a .element-count) (a .elements .now) (c .before .enum-told .given .1) (c .before .before .before .judge-records .ensures))
 
 returns : tie.Need-returns
 returns c =

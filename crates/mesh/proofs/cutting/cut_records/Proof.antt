@@ -13,7 +13,7 @@ judge-pairs-requires : tie.Need-judge-pairs-requires
 judge-pairs-requires c κs = search needs
 
 numbers-of-requires : tie.Need-numbers-of-requires
-numbers-of-requires c κs = omega (arith, c .before .count-all .ensures .few, c .before .before .before .before .pre .few)
+numbers-of-requires c κs = omega (arith, c .before .count-all .ensures .few, c .before .before .before .before .pre .table .few)
 
 judge-room-requires : tie.Need-judge-room-requires
 judge-room-requires c κs = search needs
@@ -29,7 +29,7 @@ cut-all-requires c κs =
     let a = c .before .before .before .before .before .before .before .before .before .args in
     let first = c .before .before .first-refusal in
     rw (c .before .stored-under .ensures) (
-      stored-whole (a .table .now) (a .n) (c .before .before .before .before .before .before .before .before .before .pre) (first .result),
+      stored-whole (a .table .now) (a .n) (c .before .before .before .before .before .before .before .before .before .pre .table) (first .result),
       stored-room (a .table .now) (a .n) (a .out .now) (first .result)
           (both (a .table .now) (a .n) (a .out .now) (c .before .before .before .before .before .before .count-all .ensures .count) (c .before .before .before .before .numbers-of .ensures) (c .before .before .before .before .before .judge-pairs .ensures)
           (c .before .before .before .judge-room .ensures) (first .ensures)),

@@ -2,6 +2,7 @@
 -- Assumes nothing.
 use borrow.Author.Needs.{needs}
 use Rattle.mesh.proofs.VerdictLaws.{pairs-judging}
+use Rattle.mesh.proofs.ChainLaws.{recorded-numbered}
 use Rattle.mesh.proofs.EntryLaws.{records-at}
 use Rattle.mesh.proofs.judge.judge.Statement.{statement}
 use Rattle.mesh.proofs.judge.judge.Tie as tie
@@ -16,7 +17,10 @@ enum-told : tie.Need-enum-told
 enum-told c = search needs
 
 judge-pairs-requires : tie.Need-judge-pairs-requires
-judge-pairs-requires c κs = search needs
+judge-pairs-requires c κs =
+    let a = c .before .before .before .before .args in
+    recorded-numbered (a .vertex-count) (a .element-count) (a .elements .now)
+    (records-at (a .vertex-count) (a .element-count) (a .elements .now) (c .enum-told .given .1) (c .before .before .judge-records .ensures))
 
 returns : tie.Need-returns
 returns c =
