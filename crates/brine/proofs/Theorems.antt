@@ -3,9 +3,11 @@
 use Prim.Native.Nat.{ℕ}
 use mathlib.Core.Path.{_≡_, refl, sym, ap, _∙_}
 use mathlib.Core.List.{List}
+use lib.IntN.{ℤ}
 use lib.ListN.{getD, drop}
 use Rattle.faults.specs.Refusals.{Verdict, Answer}
 use Rattle.faults.proofs.Theorems.{answer-tells-verdict}
+use Rattle.brine.specs.Entries.{ReadFront, JudgeFront, CutFront, SignFront, TextFront}
 use Rattle.brine.specs.Front.{zeros, answerTo, inOrder, FrontAnswer, FrontDone}
 
 -- ---- two answers, and two memories, that a contract allows are equal
@@ -21,14 +23,38 @@ pub record SameDone {Memory : Type 0} (r r′ : ℕ) (answer answer′ : List �
   pub left : memory ≡ memory′
 
 module _ {k : ℕ} {v : Verdict (List ℕ)} {r r′ : ℕ} {answer answer′ : List ℕ} where
-  -- `brine_judge`, `brine_signs`
   pub answer-unique : FrontAnswer k v r answer → FrontAnswer k v r′ answer′ → SameAnswer r r′ answer answer′
   answer-unique h g = record { returned = h .number ∙ sym (g .number); array = h .numbers ∙ sym (g .numbers) }
 
-  -- `brine_read`, `brine_cut`, `brine_write_vertex`, `brine_write_element`, `brine_write_end`, `brine_convert`
   pub done-unique : {Memory : Type 0} {memory memory′ due : Memory} → FrontDone k v r answer memory due → FrontDone k v r′ answer′ memory′ due
       → SameDone r r′ answer answer′ memory memory′
   done-unique h g = record { answered = answer-unique (h .answered) (g .answered); left = h .left ∙ sym (g .left) }
+
+module _ {r r′ : ℕ} {answer answer′ : List ℕ} where
+  -- `brine_read`
+  pub read-unique : (file : List ℕ) (vertices : List ℤ) (elements : List ℕ) {v v′ : List ℤ} {e e′ : List ℕ}
+      → ReadFront file vertices elements r answer v e → ReadFront file vertices elements r′ answer′ v′ e′
+      → SameDone {Memory = List ℤ × List ℕ} r r′ answer answer′ (v, e) (v′, e′)
+  read-unique file vertices elements = done-unique
+
+  -- `brine_judge`
+  pub judge-unique : (v n : ℕ) (elements : List ℕ) → JudgeFront v n elements r answer → JudgeFront v n elements r′ answer′ → SameAnswer r r′ answer answer′
+  judge-unique v n elements = answer-unique
+
+  -- `brine_cut`
+  pub cut-unique : (v n : ℕ) (elements tetrahedra : List ℕ) {new new′ : List ℕ}
+      → CutFront v n elements tetrahedra r answer new → CutFront v n elements tetrahedra r′ answer′ new′ → SameDone r r′ answer answer′ new new′
+  cut-unique v n elements tetrahedra = done-unique
+
+  -- `brine_signs`
+  pub sign-unique : (v n : ℕ) (elements : List ℕ) (vertices : List ℤ)
+      → SignFront v n elements vertices r answer → SignFront v n elements vertices r′ answer′ → SameAnswer r r′ answer answer′
+  sign-unique v n elements vertices = answer-unique
+
+  -- `brine_write_vertex`, `brine_write_element`, `brine_write_end`, `brine_convert`
+  pub text-unique : (verdict : Verdict (List ℕ)) (buffer : List ℕ) {new new′ : List ℕ}
+      → TextFront verdict buffer r answer new → TextFront verdict buffer r′ answer′ new′ → SameDone r r′ answer answer′ new new′
+  text-unique verdict buffer = done-unique
 
 -- ---- the returned number is the first of the array
 

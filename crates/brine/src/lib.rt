@@ -17,20 +17,6 @@ ghost use Rattle.converting.specs.Converting.{conversionInto};
 ghost use Rattle.text.specs.Written.{writeVertexVerdict, writeElementVerdict, writeEndVerdict};
 ghost use Rattle.brine.specs.Entries.{ReadFront, JudgeFront, CutFront, SignFront, TextFront};
 
-// Judges a table of elements; no values.
-#[no_mangle]
-pub extern "C" fn brine_judge(
-    vertex_count: usize,
-    element_count: usize,
-    elements: &[u16],
-    answer: &mut [u64; 3],
-) -> u32
-    ensures { λ r. ⌜ JudgeFront «vertex_count» «element_count» (now (elements .entry)) r (now (answer .exit)) ⌝ }
-{
-    let judged = judge_mesh(vertex_count, element_count, elements);
-    told::tell(told::of_judge(judged), answer)
-}
-
 // Reads a file into two tables, three numbers a vertex and nine an element; the values are how many vertices and elements.
 #[no_mangle]
 pub extern "C" fn brine_read(
@@ -43,6 +29,20 @@ pub extern "C" fn brine_read(
 {
     let read = read_mesh(file, vertices, elements);
     told::tell(told::of_read(read), answer)
+}
+
+// Judges a table of elements; no values.
+#[no_mangle]
+pub extern "C" fn brine_judge(
+    vertex_count: usize,
+    element_count: usize,
+    elements: &[u16],
+    answer: &mut [u64; 3],
+) -> u32
+    ensures { λ r. ⌜ JudgeFront «vertex_count» «element_count» (now (elements .entry)) r (now (answer .exit)) ⌝ }
+{
+    let judged = judge_mesh(vertex_count, element_count, elements);
+    told::tell(told::of_judge(judged), answer)
 }
 
 // Cuts a table of elements into tetrahedra, four numbers each; the value is how many.

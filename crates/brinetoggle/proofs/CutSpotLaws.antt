@@ -91,7 +91,7 @@ conversion-late input counts e =
     (cut-late (getD counts 0 0) (getD counts 1 0) t few small long (file-sound rooms counts input e)) (λ ts q. tt))
 
 pub cut-spot : (input counts : List ℕ) (r : Refusal) → fileVerdict rooms input ≡ accepted counts → conversion input ≡ refused r
-    → spotOf r ≡ cond (eqb (numberOf (r .fault)) 14) (spot.Elements (r .place) (r .second)) (spot.Element (r .place))
+    → spotOf r ≡ cond (eqb (numberOf (r .fault)) (numberOf fault.Join)) (spot.Elements (r .place) (r .second)) (spot.Element (r .place))
 unfolding spotOf
 cut-spot input counts r e q =
     let h : OfElements r = subst AtElements q (conversion-late input counts e) in

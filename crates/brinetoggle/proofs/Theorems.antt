@@ -72,5 +72,5 @@ read-spot = SpotLaws.read-spot
 
 -- where cutting refused what reading accepted: both elements of JOIN, else the element that the refusal names
 pub cut-spot : (input counts : List ℕ) (r : Refusal) → fileVerdict rooms input ≡ accepted counts → conversion input ≡ refused r
-    → spotOf r ≡ cond (eqb (numberOf (r .fault)) 14) (Elements (r .place) (r .second)) (Element (r .place))
+    → spotOf r ≡ cond (eqb (numberOf (r .fault)) (numberOf fault.Join)) (Elements (r .place) (r .second)) (Element (r .place))
 cut-spot = CutSpotLaws.cut-spot

@@ -5,6 +5,11 @@ use libc::STDERR_FILENO;
 ghost use mathlib.Core.Path.{_≡_};
 ghost use Rattle.brinetoggle.specs.Words.{spotOf};
 
+// The numbers of JOIN, and of END, the last fault that reading gives.
+const JOIN: u32 = 14;
+
+const END: u32 = 10;
+
 // Where a refusal lies: reading names a line, or no line where the whole file is at fault; cutting names an element, or two.
 pub enum Spot {
     File,
@@ -20,10 +25,10 @@ fn spot_of(refusal: Refusal) -> Spot
     let fault = refusal.fault;
     let number = number_of(fault);
     let place = refusal.place;
-    if number == 14 {
+    if number == JOIN {
         return Spot::Elements(place, refusal.second);
     }
-    if 10 < number {
+    if END < number {
         return Spot::Element(place);
     }
     if place == 0 {
