@@ -1,4 +1,4 @@
--- A turn of the loop that puts a tetrahedron into a list: the one in hand is stored where it goes before what stands there, and that one then goes
+-- A turn of the loop that puts a key into a list: the one in hand is stored where it goes before what stands there, and that one then goes
 -- on in its stead.
 -- Assumes nothing.
 use mathlib.Core.Path.{_≡_, refl, sym, _∙_}
@@ -12,12 +12,7 @@ use lib.Seq.{slice, slice-cons, slice-empty, take-suc, take-suc-set, take-set-lt
 use Rattle.solids.specs.Solids.{Tet, ofTet}
 use Rattle.solids.specs.Cut.{upTo, insert}
 use Rattle.solids.proofs.AscendingLaws.{clash}
-use Rattle.mesh.specs.declared.blocks.Tet as code
-use Rattle.mesh.specs.BlockLoops.{tetOf}
-
--- what is read where an array has none
-abbrev pub none : code.Tet
-none = record { 0 = record { 0 = 0 }; 1 = record { 0 = 0 }; 2 = record { 0 = 0 }; 3 = record { 0 = 0 } }
+use Rattle.mesh.specs.BlockLoops.{keyed}
 
 -- the one in hand put among the rest, before all of them if it made room for another
 abbrev put : Bool → Tet ℕ → List (Tet ℕ) → List (Tet ℕ)
@@ -37,34 +32,34 @@ put-last true t = refl
 put-last false t = refl
 
 -- what the first n will be, and one more, with t in hand at the place i
-abbrev pub ahead : List code.Tet → code.Tet → Bool → ℕ → ℕ → List (Tet ℕ)
-ahead l t m i n = map tetOf (take i l) ++ put m (tetOf t) (map tetOf (slice i n l))
+abbrev pub ahead : List ℕ → ℕ → Bool → ℕ → ℕ → List (Tet ℕ)
+ahead l t m i n = map keyed (take i l) ++ put m (keyed t) (map keyed (slice i n l))
 
-module _ (l : List code.Tet) (t d : code.Tet) (m : Bool) (i n : ℕ) (h : i < n) (k : n ≤ length l) where
-  abbrev u : code.Tet
+module _ (l : List ℕ) (t d : ℕ) (m : Bool) (i n : ℕ) (h : i < n) (k : n ≤ length l) where
+  abbrev u : ℕ
   u = getD l i d
 
   abbrev rest : List (Tet ℕ)
-  rest = map tetOf (slice (suc i) n l)
+  rest = map keyed (slice (suc i) n l)
 
   slice-set : slice (suc i) n (set l i t) ≡ slice (suc i) n l
   slice-set = rw (take-set-lt n l i t h) (drop-set-lt (suc i) (take n l) i t (le-refl (suc i)))
 
-  next : ahead l t m i n ≡ map tetOf (take i l) ++ put m (tetOf t) (tetOf u ∷ rest)
+  next : ahead l t m i n ≡ map keyed (take i l) ++ put m (keyed t) (keyed u ∷ rest)
   next = rw (slice-cons i n l d h k)
 
-  pub ahead-goes : (m || upTo (ofTet (tetOf t)) (ofTet (tetOf u))) ≡ true → ahead l t m i n ≡ ahead (set l i t) u true (suc i) n
+  pub ahead-goes : (m || upTo (ofTet (keyed t)) (ofTet (keyed u))) ≡ true → ahead l t m i n ≡ ahead (set l i t) u true (suc i) n
   ahead-goes e =
       next
-      ∙ rw (put-goes m (tetOf t) (tetOf u) rest e, take-suc-set l i t (omega arith), slice-set, map-append tetOf (take i l) (t ∷ []))
-      (sym (append-snoc (map tetOf (take i l)) (tetOf t) (tetOf u ∷ rest)))
+      ∙ rw (put-goes m (keyed t) (keyed u) rest e, take-suc-set l i t (omega arith), slice-set, map-append keyed (take i l) (t ∷ []))
+      (sym (append-snoc (map keyed (take i l)) (keyed t) (keyed u ∷ rest)))
 
-  pub ahead-stays : (m || upTo (ofTet (tetOf t)) (ofTet (tetOf u))) ≡ false → ahead l t m i n ≡ ahead l t m (suc i) n
+  pub ahead-stays : (m || upTo (ofTet (keyed t)) (ofTet (keyed u))) ≡ false → ahead l t m i n ≡ ahead l t m (suc i) n
   ahead-stays e =
       next
-      ∙ rw (put-stays m (tetOf t) (tetOf u) rest e, take-suc l i d (omega arith), map-append tetOf (take i l) (u ∷ []))
-      (sym (append-snoc (map tetOf (take i l)) (tetOf u) (put m (tetOf t) rest)))
+      ∙ rw (put-stays m (keyed t) (keyed u) rest e, take-suc l i d (omega arith), map-append keyed (take i l) (u ∷ []))
+      (sym (append-snoc (map keyed (take i l)) (keyed u) (put m (keyed t) rest)))
 
-pub ahead-end : (l : List code.Tet) (t : code.Tet) (m : Bool) (n : ℕ) → n < length l → ahead l t m n n ≡ map tetOf (take (suc n) (set l n t))
+pub ahead-end : (l : List ℕ) (t : ℕ) (m : Bool) (n : ℕ) → n < length l → ahead l t m n n ≡ map keyed (take (suc n) (set l n t))
 ahead-end l t m n k =
-    rw (slice-empty n l, put-last m (tetOf t), take-suc-set l n t k, map-append tetOf (take n l) (t ∷ []))
+    rw (slice-empty n l, put-last m (keyed t), take-suc-set l n t k, map-append keyed (take n l) (t ∷ []))

@@ -3,6 +3,7 @@ pub mod FitFaceLaws
 pub mod FittingLaws
 pub mod ChainLaws
 pub mod JudgeLaws
+pub mod KeyLaws
 pub mod VerdictLaws
 pub mod EntryLaws
 pub mod InsertLaws

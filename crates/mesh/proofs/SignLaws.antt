@@ -20,7 +20,6 @@ use Rattle.solids.specs.Solids.{Tet, Element}
 use Rattle.solids.specs.Cut.{cut, cutMesh}
 use Rattle.mesh.specs.declared.JudgeAnswer.the-variants as judge
 use Rattle.mesh.specs.declared.SignCounts.{SignCounts}
-use Rattle.mesh.specs.declared.blocks.Block.{Block}
 use Rattle.mesh.specs.declared.signs.Sign.{Sign}
 use Rattle.mesh.specs.declared.signs.Sign.the-variants.{Positive, Zero, Negative}
 use Rattle.mesh.specs.declared.signs.Tally.{Tally}
@@ -192,17 +191,17 @@ module _ (table : List ℤ) where
   counts-none = refl
 
   -- one element: its tetrahedra by sign, and 1 where it is not sound
-  module _ (e : Element) {block : Block} (k : BlockIs block (cut e)) {c : Tally} (h : Tallied table (tetsIn block) c) where
-    alone : (P : Tet ℕ → Bool) {n : ℕ} → n ≡ count P (tetsIn block) → n ≡ count P (cutMesh (e ∷ []))
+  module _ (e : Element) {keys : List ℕ} {n : ℕ} (k : BlockIs keys n (cut e)) {c : Tally} (h : Tallied table (tetsIn keys n) c) where
+    alone : (P : Tet ℕ → Bool) {m : ℕ} → m ≡ count P (tetsIn keys n) → m ≡ count P (cutMesh (e ∷ []))
     unfolding cutMesh
     alone P p = p ∙ ap (count P) (k .same ∙ sym (append-nil (cut e)))
 
     -- the tally says whether the element is sound
     pub sound-by-tally : allPositive c ≡ sound table e
     unfolding sound
-    sound-by-tally = (λ i. eqb (h .zero i) 0 && eqb (h .negative i) 0) ∙ tally-sound (tetsIn block) ∙ ap (every (isPositive table)) (k .same)
+    sound-by-tally = (λ i. eqb (h .zero i) 0 && eqb (h .negative i) 0) ∙ tally-sound (tetsIn keys n) ∙ ap (every (isPositive table)) (k .same)
 
-    pub counts-of-one : {n : ℕ} → n ≡ count (λ x. not (sound table x)) (e ∷ []) → ofCounts (record { positive = c .positive; zero = c .zero; negative = c .negative; unsound = n }) ≡ signCounts table (e ∷ [])
+    pub counts-of-one : {m : ℕ} → m ≡ count (λ x. not (sound table x)) (e ∷ []) → ofCounts (record { positive = c .positive; zero = c .zero; negative = c .negative; unsound = m }) ≡ signCounts table (e ∷ [])
     counts-of-one u = to-list (record {
       positive = alone (isPositive table) (h .positive);
       zero = alone (isZero table) (h .zero);

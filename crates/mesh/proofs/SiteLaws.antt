@@ -21,7 +21,6 @@ use Rattle.solids.proofs.Theorems.{plain}
 use Rattle.records.specs.Record.{usedOf, elementOf, recordAt}
 use Rattle.records.specs.Loops.{isNumber, Whole}
 use Rattle.records.proofs.Theorems.{whole-proper}
-use Rattle.mesh.specs.declared.blocks.Block.{Block}
 use Rattle.mesh.specs.Judge.{badRecord}
 use Rattle.mesh.specs.Signs.{vertexWidth, badPoint}
 use Rattle.mesh.specs.BlockLoops.{BlockIs}
@@ -84,7 +83,7 @@ module _ (table : List ℤ) where
       (λ t. every-implies (λ v. among v (usedOf r)) (sited table) (among-every (sited table) (usedOf r) h) (ofTet t))
       (cut (elementOf r)) (plain (elementOf r) (whole-proper r w) .own)
 
-  pub block-sited : (r : List ℕ) → Whole r → T (every (sited table) (usedOf r)) → {b : Block} → BlockIs b (cut (elementOf r)) → SitedBlock table b
+  pub block-sited : (r : List ℕ) → Whole r → T (every (sited table) (usedOf r)) → {l : List ℕ} {n : ℕ} → BlockIs l n (cut (elementOf r)) → SitedBlock table l n
   block-sited r w h b = record {
     few = b .few;
     many = ap length (b .same) ∙ b .many;

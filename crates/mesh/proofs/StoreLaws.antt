@@ -11,8 +11,7 @@ use Rattle.laws.proofs.LentLaws.{placed-placed}
 use Rattle.laws.proofs.ListLaws.{gather-append}
 use Rattle.solids.specs.Solids.{Tet, tet, ofTet}
 use Rattle.mesh.specs.Cutting.{tetWidth, flat}
-use Rattle.mesh.specs.declared.blocks.Tet as code
-use Rattle.mesh.specs.BlockLoops.{tetOf}
+use Rattle.mesh.specs.BlockLoops.{keyed}
 
 pub flat-append : (x y : List (Tet ℕ)) → flat (x ++ y) ≡ flat x ++ flat y
 unfolding flat
@@ -33,10 +32,10 @@ placed-after l at x y e h =
     ∙ placed-placed l at (flat x) (omega arith) (flat y)
     ∙ ap (placed l at) (sym (flat-append x y))
 
--- one tetrahedron more of an array
-pub placed-next : (l : List ℕ) (at : ℕ) (b : List code.Tet) (k : ℕ) (d : code.Tet) → k < length b → at + tetWidth * k ≤ length l
-    → placed (placed l at (flat (map tetOf (take k b)))) (at + tetWidth * k) (flat (tetOf (getD b k d) ∷ [])) ≡ placed l at (flat (map tetOf (take (suc k) b)))
+-- one tetrahedron more of an array of keys
+pub placed-next : (l : List ℕ) (at : ℕ) (b : List ℕ) (k : ℕ) (d : ℕ) → k < length b → at + tetWidth * k ≤ length l
+    → placed (placed l at (flat (map keyed (take k b)))) (at + tetWidth * k) (flat (keyed (getD b k d) ∷ [])) ≡ placed l at (flat (map keyed (take (suc k) b)))
 placed-next l at b k d h room =
-    let m : length (map tetOf (take k b)) ≡ k = length-map (take k b) tetOf ∙ length-take-le k b (omega arith) in
-    placed-after l at (map tetOf (take k b)) (tetOf (getD b k d) ∷ []) (omega arith) (omega arith)
-    ∙ ap (λ ts. placed l at (flat ts)) (sym (ap (map tetOf) (take-suc b k d h) ∙ map-append tetOf (take k b) (getD b k d ∷ [])))
+    let m : length (map keyed (take k b)) ≡ k = length-map (take k b) keyed ∙ length-take-le k b (omega arith) in
+    placed-after l at (map keyed (take k b)) (keyed (getD b k d) ∷ []) (omega arith) (omega arith)
+    ∙ ap (λ ts. placed l at (flat ts)) (sym (ap (map keyed) (take-suc b k d h) ∙ map-append keyed (take k b) (getD b k d ∷ [])))

@@ -3,7 +3,7 @@
 use mathlib.Core.Path.{_≡_}
 use mathlib.Core.Bool.{cond, not}
 use mathlib.Core.List.{List, [], _∷_, map}
-use Prim.Native.Nat.{ℕ, _+_, _*_, _≤_}
+use Prim.Native.Nat.{ℕ, _+_, _*_, _/_, _%_, _≤_}
 use lib.Dec.{eqb}
 use lib.ListN.{length, getD, take}
 use Rattle.laws.specs.Words.{keep}
@@ -16,7 +16,6 @@ use Rattle.mesh.specs.Cutting.{flat}
 use Rattle.mesh.specs.declared.blocks.Tet as code-tet
 use Rattle.mesh.specs.declared.blocks.Face as code-face
 use Rattle.mesh.specs.declared.blocks.Face.the-variants.{Three, Four}
-use Rattle.mesh.specs.declared.blocks.Block.{Block}
 
 -- the tetrahedron that four numbers of the code are
 abbrev pub tetOf : code-tet.Tet → Tet Vertex
@@ -27,25 +26,35 @@ abbrev pub faceOf : code-face.Face → Face Vertex
 faceOf (Three p q r) = three (p .0) (q .0) (r .0)
 faceOf (Four p q r s) = four (p .0) (q .0) (r .0) (s .0)
 
--- the tetrahedra of a block
-unfoldable pub tetsIn : Block → List (Tet Vertex)
-tetsIn b = map tetOf (take (b .count) (b .tets))
+-- the tetrahedron of a key: its four numbers are the digits in the base 65,536
+unfoldable pub keyed : ℕ → Tet Vertex
+keyed k = tet (k / 65536 / 65536 / 65536) (k / 65536 / 65536 % 65536) (k / 65536 % 65536) (k % 65536)
 
--- a block is these tetrahedra, at most six
-pub record BlockIs (b : Block) (ts : List (Tet Vertex)) : Type 0 where
-  pub few : b .count ≤ 6
-  pub many : length ts ≡ b .count
-  pub same : tetsIn b ≡ ts
+-- the tetrahedra of the first n keys
+unfoldable pub tetsIn : List ℕ → ℕ → List (Tet Vertex)
+tetsIn keys n = map keyed (take n keys)
+
+-- the first n keys are these tetrahedra, at most six
+pub record BlockIs (keys : List ℕ) (n : ℕ) (ts : List (Tet Vertex)) : Type 0 where
+  pub few : n ≤ 6
+  pub many : length ts ≡ n
+  pub same : tetsIn keys n ≡ ts
 
 -- tetrahedra, in their written form, put into a list that is in order, the last of them first
 abbrev pub joined : List (Tet Vertex) → List (Tet Vertex) → List (Tet Vertex)
 joined [] us = us
 joined (t ∷ ts) us = insert (written t) (joined ts us)
 
--- a block with these tetrahedra more
-pub record Grown (b : Block) (ts : List (Tet Vertex)) (r : Block) : Type 0 where
-  pub many : r .count ≡ b .count + length ts
-  pub same : tetsIn r ≡ joined ts (tetsIn b)
+-- n keys with that of one tetrahedron more, at its place; there is room for six
+pub record Inserted (old : List ℕ) (n : ℕ) (t : Tet Vertex) (new : List ℕ) : Type 0 where
+  pub same : tetsIn new (n + 1) ≡ insert t (tetsIn old n)
+  pub wide : length new ≡ 6
+
+-- n keys became r keys, those of these tetrahedra more; there is room for six
+pub record Grown (old : List ℕ) (n : ℕ) (ts : List (Tet Vertex)) (new : List ℕ) (r : ℕ) : Type 0 where
+  pub many : r ≡ n + length ts
+  pub same : tetsIn new r ≡ joined ts (tetsIn old n)
+  pub wide : length new ≡ 6
 
 -- ---- a face
 

@@ -16,7 +16,6 @@ use Rattle.records.specs.Record.{usedOf, recordAt}
 use Rattle.mesh.specs.declared.JudgeAnswer.{JudgeAnswer}
 use Rattle.mesh.specs.declared.JudgeAnswer.the-variants.{Done, Refused}
 use Rattle.mesh.specs.declared.SignCounts.{SignCounts}
-use Rattle.mesh.specs.declared.blocks.Block.{Block}
 use Rattle.mesh.specs.declared.signs.Sign.{Sign}
 use Rattle.mesh.specs.declared.signs.Sign.the-variants.{Positive, Zero, Negative}
 use Rattle.mesh.specs.declared.signs.Tally.{Tally}
@@ -42,11 +41,11 @@ sited table v = ltb 0 v && (leb (vertexWidth * v) (length table) && pointInRange
 unfoldable pub sitedTet : List ℤ → Tet Vertex → Bool
 sitedTet table t = every (sited table) (ofTet t)
 
--- a block of at most six tetrahedra, all of them sited
-pub record SitedBlock (table : List ℤ) (block : Block) : Type 0 where
-  pub few : block .count ≤ 6
-  pub many : length (tetsIn block) ≡ block .count
-  pub sites : T (every (sitedTet table) (tetsIn block))
+-- the first n keys, at most six, are of sited tetrahedra
+pub record SitedBlock (table : List ℤ) (keys : List ℕ) (n : ℕ) : Type 0 where
+  pub few : n ≤ 6
+  pub many : length (tetsIn keys n) ≡ n
+  pub sites : T (every (sitedTet table) (tetsIn keys n))
 
 -- the corners of each of the first n records are sited
 pub record SitedTable (table : List ℤ) (t : List ℕ) (n : ℕ) : Type 0 where

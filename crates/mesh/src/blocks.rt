@@ -6,7 +6,7 @@ ghost use mathlib.Core.Path.{_≡_};
 ghost use mathlib.Core.Bool.{_||_};
 ghost use mathlib.Core.List.{[], _∷_, map};
 ghost use Prim.Native.Nat.{min, _+_, _*_, _≤_, _<_};
-ghost use lib.ListN.{length, take};
+ghost use lib.ListN.{length};
 ghost use Rattle.laws.specs.Words.{among, lowest};
 ghost use Rattle.solids.specs.declared.Solid.the-variants.{Hexahedron};
 ghost use Rattle.solids.specs.Solids.{four, element, ofTet, onTet, at, opposite, holds, facesOf};
@@ -14,7 +14,7 @@ ghost use Rattle.solids.specs.Cut.{lowestFirst, halves, follow, first, onDiagon
 ghost use Rattle.solids.specs.Rows.{cutPlaces, rowPlace, binary, rowOf, cutByRow};
 ghost use Rattle.records.specs.Record.{kindOf, usedOf, elementOf};
 ghost use Rattle.records.specs.Loops.{Whole};
-ghost use Rattle.mesh.specs.BlockLoops.{tetOf, faceOf, Grown, BlockIs, faceIn, faceTets, choice, withBit, rowTet, rowTetsAt};
+ghost use Rattle.mesh.specs.BlockLoops.{tetOf, keyed, faceOf, Inserted, Grown, BlockIs, faceIn, faceTets, choice, withBit, rowTet, rowTetsAt};
 
 // A tetrahedron in vertex numbers.
 pub struct Tet(pub Vertex, pub Vertex, pub Vertex, pub Vertex);
@@ -25,11 +25,8 @@ pub enum Face {
     Four(Vertex, Vertex, Vertex, Vertex),
 }
 
-// The first `count` of six tetrahedra.
-pub struct Block {
-    pub tets: [Tet; 6],
-    pub count: usize,
-}
+// The base in which the four numbers of a tetrahedron are the digits of its key.
+const BASE: u64 = 65536;
 
 // The place opposite to a place of the hexahedron; that to none is none.
 const OPPOSITE: [u8; 9] = [0, 7, 8, 5, 6, 3, 4, 1, 2];
@@ -97,77 +94,71 @@ fn written_form(t: Tet) -> Tet
     second_lowest(Tet(d, c, b, a))
 }
 
-// Not above, compared number by number.
-fn up_to(t: Tet, u: Tet) -> bool
-    ensures { λ r. ⌜ r ≡ upTo (ofTet (tetOf t)) (ofTet (tetOf u)) ⌝ }
+// A tetrahedron as one number, its key: keys compare as tetrahedra do, number by number.
+fn key_of(t: Tet) -> u64
+    ensures { λ r. ⌜ keyed r ≡ tetOf t ⌝ }
 {
-    if t.0.0 != u.0.0 {
-        return t.0.0 < u.0.0;
-    }
-    if t.1.0 != u.1.0 {
-        return t.1.0 < u.1.0;
-    }
-    if t.2.0 != u.2.0 {
-        return t.2.0 < u.2.0;
-    }
-    t.3.0 <= u.3.0
+    let a = t.0.0 as u64;
+    let b = t.1.0 as u64;
+    let c = t.2.0 as u64;
+    let d = t.3.0 as u64;
+    ((a * BASE + b) * BASE + c) * BASE + d
 }
 
-// Whether the tetrahedron in hand goes before u: one that made room for another always does.
-fn goes_before(moved: bool, t: Tet, u: Tet) -> bool
-    ensures { λ r. ⌜ r ≡ (moved || upTo (ofTet (tetOf t)) (ofTet (tetOf u))) ⌝ }
+// The tetrahedron of a key.
+pub fn tet_of(key: u64) -> Tet
+    ensures { λ t. ⌜ tetOf t ≡ keyed key ⌝ }
+{
+    let c = key / BASE;
+    let b = c / BASE;
+    let a = b / BASE;
+    Tet(
+        Vertex(a as u16),
+        Vertex((b % BASE) as u16),
+        Vertex((c % BASE) as u16),
+        Vertex((key % BASE) as u16),
+    )
+}
+
+// Whether the key in hand goes before another: one that made room for another always does.
+fn goes_before(moved: bool, key: u64, other: u64) -> bool
+    ensures { λ r. ⌜ r ≡ (moved || upTo (ofTet (keyed key)) (ofTet (keyed other))) ⌝ }
 {
     if moved {
         return true;
     }
-    up_to(t, u)
+    key <= other
 }
 
-// A tetrahedron put before the first of n that is not below it; the later ones make room.
-fn insert_into(tets: [Tet; 6], n: usize, t: Tet) -> [Tet; 6]
+// A key put before the first of n that is not below it; the later ones make room.
+fn insert_into(keys: &mut [u64; 6], n: usize, key: u64)
     requires { ⌜ n < 6 ⌝ }
-    ensures { λ r. ⌜ map tetOf (take (n + 1) r) ≡ insert (tetOf t) (map tetOf (take n tets)) ⌝ }
+    requires { ⌜ length (now keys) ≡ 6 ⌝ }
+    ensures { λ _. ⌜ Inserted (now (keys .entry)) n (keyed key) (now (keys .exit)) ⌝ }
 {
-    let mut out = tets;
-    let mut hand = t;
+    let mut hand = key;
     let mut moved = false;
     let mut i = 0;
     while i < n {
-        let u = out[i];
-        if goes_before(moved, hand, u) {
-            out[i] = hand;
-            hand = u;
+        let other = keys[i];
+        if goes_before(moved, hand, other) {
+            keys[i] = hand;
+            hand = other;
             moved = true;
         }
         i += 1;
     }
-    out[n] = hand;
-    out
+    keys[n] = hand;
 }
 
-// A block with a tetrahedron more, in its written form and at its place.
-fn added(block: Block, t: Tet) -> Block
-    requires { ⌜ block .count < 6 ⌝ }
-    ensures { λ r. ⌜ Grown block (tetOf t ∷ []) r ⌝ }
+// A block of n with a tetrahedron more, in its written form and at its place; how many they are then.
+fn added(keys: &mut [u64; 6], n: usize, t: Tet) -> usize
+    requires { ⌜ n < 6 ⌝ }
+    requires { ⌜ length (now keys) ≡ 6 ⌝ }
+    ensures { λ r. ⌜ Grown (now (keys .entry)) n (tetOf t ∷ []) (now (keys .exit)) r ⌝ }
 {
-    let n = block.count;
-    let old = block.tets;
-    let tets = insert_into(old, n, written_form(t));
-    Block {
-        tets: tets,
-        count: n + 1,
-    }
-}
-
-// A block of none.
-fn no_tets() -> Block
-    ensures { λ r. ⌜ BlockIs r [] ⌝ }
-{
-    let none = Tet(Vertex(0), Vertex(0), Vertex(0), Vertex(0));
-    Block {
-        tets: [none; 6],
-        count: 0,
-    }
+    insert_into(keys, n, key_of(written_form(t)));
+    n + 1
 }
 
 // The vertex at a place of the element; none at a place that its solid does not have.
@@ -390,93 +381,106 @@ fn row_tet(numbers: &[u16], cuts: &[u8; 1536], row: usize, k: usize) -> Tet
     )
 }
 
-// A block with the tetrahedron k of a row of cuts, unless that is four zeros.
-fn with_row_tet(block: Block, numbers: &[u16], cuts: &[u8; 1536], row: usize, k: usize) -> Block
+// A block of n with the tetrahedron k of a row of cuts, unless that is four zeros; how many they are then.
+fn with_row_tet(
+    keys: &mut [u64; 6],
+    n: usize,
+    numbers: &[u16],
+    cuts: &[u8; 1536],
+    row: usize,
+    k: usize,
+) -> usize
     requires { ⌜ now cuts ≡ cutPlaces ⌝ }
     requires { ⌜ row < 64 ⌝ }
     requires { ⌜ k < 6 ⌝ }
-    requires { ⌜ block .count < 6 ⌝ }
-    ensures { λ r. ⌜ Grown block (rowTetsAt (usedOf (now (numbers .entry))) row k) r ⌝ }
+    requires { ⌜ n < 6 ⌝ }
+    requires { ⌜ length (now keys) ≡ 6 ⌝ }
+    ensures { λ r. ⌜ Grown (now (keys .entry)) n (rowTetsAt (usedOf (now (numbers .entry))) row k) (now (keys .exit)) r ⌝ }
 {
     let p = place_in(cuts, row, 4 * k);
     if p.0 == 0 {
-        return block;
+        return n;
     }
-    added(block, row_tet(numbers, cuts, row, k))
+    added(keys, n, row_tet(numbers, cuts, row, k))
 }
 
-// A hexahedron's tetrahedra, by its row of the table of cuts.
-fn row_block(numbers: &[u16], cuts: &[u8; 1536]) -> Block
+// A hexahedron's tetrahedra, by its row of the table of cuts; how many they are.
+fn row_block(numbers: &[u16], cuts: &[u8; 1536], keys: &mut [u64; 6]) -> usize
     requires { ⌜ Whole (now numbers) ⌝ }
     requires { ⌜ kindOf (now numbers) ≡ 8 ⌝ }
     requires { ⌜ now cuts ≡ cutPlaces ⌝ }
-    ensures { λ r. ⌜ BlockIs r (cutByRow (usedOf (now (numbers .entry)))) ⌝ }
+    requires { ⌜ length (now keys) ≡ 6 ⌝ }
+    ensures { λ r. ⌜ BlockIs (now (keys .exit)) r (cutByRow (usedOf (now (numbers .entry)))) ⌝ }
 {
     let row = row_of(numbers);
-    let mut block = no_tets();
+    let mut n = 0;
     let mut k = 6;
     while 0 < k {
         k -= 1;
-        let next = with_row_tet(block, numbers, cuts, row, k);
-        block = next;
+        let next = with_row_tet(keys, n, numbers, cuts, row, k);
+        n = next;
     }
-    block
+    n
 }
 
-// A block with a vertex followed by each triangle of a face.
-fn with_triangles(block: Block, v: Vertex, face: Face) -> Block
-    requires { ⌜ block .count + length (halves (faceOf face)) ≤ 6 ⌝ }
-    ensures { λ r. ⌜ Grown block (map (follow (v .0)) (halves (faceOf face))) r ⌝ }
+// A block of n with a vertex followed by each triangle of a face; how many they are then.
+fn with_triangles(keys: &mut [u64; 6], n: usize, v: Vertex, face: Face) -> usize
+    requires { ⌜ n + length (halves (faceOf face)) ≤ 6 ⌝ }
+    requires { ⌜ length (now keys) ≡ 6 ⌝ }
+    ensures { λ r. ⌜ Grown (now (keys .entry)) n (map (follow (v .0)) (halves (faceOf face))) (now (keys .exit)) r ⌝ }
 {
     match face {
-        Face::Three(p, q, r) => added(block, Tet(v, p, q, r)),
+        Face::Three(p, q, r) => added(keys, n, Tet(v, p, q, r)),
         Face::Four(p, q, r, s) => {
-            let later = added(block, Tet(v, p, r, s));
-            added(later, Tet(v, p, q, r))
+            let later = added(keys, n, Tet(v, p, r, s));
+            added(keys, later, Tet(v, p, q, r))
         }
     }
 }
 
-// A block with the lowest corner followed by each triangle of a cut face, if that is far from it.
-fn with_face(block: Block, low: Vertex, face: Face) -> Block
-    requires { ⌜ block .count + length (faceTets (low .0) (faceOf face)) ≤ 6 ⌝ }
-    ensures { λ r. ⌜ Grown block (faceTets (low .0) (faceOf face)) r ⌝ }
+// A block of n with the lowest corner followed by each triangle of a cut face, if that is far from it; how many they are then.
+fn with_face(keys: &mut [u64; 6], n: usize, low: Vertex, face: Face) -> usize
+    requires { ⌜ n + length (faceTets (low .0) (faceOf face)) ≤ 6 ⌝ }
+    requires { ⌜ length (now keys) ≡ 6 ⌝ }
+    ensures { λ r. ⌜ Grown (now (keys .entry)) n (faceTets (low .0) (faceOf face)) (now (keys .exit)) r ⌝ }
 {
     if is_corner(low, face) {
-        return block;
+        return n;
     }
-    with_triangles(block, low, lowest_first(face))
+    with_triangles(keys, n, low, lowest_first(face))
 }
 
-// The lowest corner followed by each triangle of the cut faces that do not hold it.
-fn fan_block(numbers: &[u16]) -> Block
+// The lowest corner followed by each triangle of the cut faces that do not hold it; how many they are.
+fn fan_block(numbers: &[u16], keys: &mut [u64; 6]) -> usize
     requires { ⌜ Whole (now numbers) ⌝ }
     requires { ⌜ length (fan (elementOf (now numbers))) ≤ 6 ⌝ }
-    ensures { λ r. ⌜ BlockIs r (inOrder (fan (elementOf (now (numbers .entry))))) ⌝ }
+    requires { ⌜ length (now keys) ≡ 6 ⌝ }
+    ensures { λ r. ⌜ BlockIs (now (keys .exit)) r (inOrder (fan (elementOf (now (numbers .entry))))) ⌝ }
 {
     let solid = records::solid_of(records::kind_of(numbers));
     let low = vertex_at(numbers, lowest_place(numbers));
-    let mut block = no_tets();
+    let mut n = 0;
     let mut i = solids::face_count(solid);
     while 0 < i {
         i -= 1;
         let face = face_of(numbers, solid, i);
-        let next = with_face(block, low, face);
-        block = next;
+        let next = with_face(keys, n, low, face);
+        n = next;
     }
-    block
+    n
 }
 
-// The tetrahedra of a record's element: the hexahedron's by its row of the table of cuts, the others' by the rule.
-pub fn block_of(numbers: &[u16], cuts: &[u8; 1536]) -> Block
+// The keys of the tetrahedra of a record's element, the hexahedron's by its row of the table of cuts, the others' by the rule; how many they are.
+pub fn block_of(numbers: &[u16], cuts: &[u8; 1536], keys: &mut [u64; 6]) -> usize
     requires { ⌜ Whole (now numbers) ⌝ }
     requires { ⌜ now cuts ≡ cutPlaces ⌝ }
-    ensures { λ r. ⌜ BlockIs r (cut (elementOf (now (numbers .entry)))) ⌝ }
+    requires { ⌜ length (now keys) ≡ 6 ⌝ }
+    ensures { λ r. ⌜ BlockIs (now (keys .exit)) r (cut (elementOf (now (numbers .entry)))) ⌝ }
 {
     if records::kind_of(numbers) == 8 {
-        return row_block(numbers, cuts);
+        return row_block(numbers, cuts, keys);
     }
-    fan_block(numbers)
+    fan_block(numbers, keys)
 }
 
 // How many tetrahedra a hexahedron gives: six, or five where no far diagonal passes the opposite corner.

@@ -6,16 +6,16 @@ use crate::blocks;
 use crate::blocks::Tet;
 use crate::judge;
 ghost use mathlib.Core.Path.{_≡_};
-ghost use mathlib.Core.List.{[], _∷_, map};
+ghost use mathlib.Core.List.{[], _∷_};
 ghost use Prim.Native.Nat.{_+_, _*_, _≤_};
-ghost use lib.ListN.{length, take};
+ghost use lib.ListN.{length};
 ghost use Rattle.laws.specs.Lent.{laid, placed};
 ghost use Rattle.solids.specs.Cut.{cut, cutMesh};
 ghost use Rattle.solids.specs.Rows.{cutPlaces};
 ghost use Rattle.records.specs.Record.{elementOf, firstElements};
 ghost use Rattle.records.specs.Loops.{Whole, WholeTable};
 ghost use Rattle.mesh.specs.Cutting.{tetWidth, flat};
-ghost use Rattle.mesh.specs.BlockLoops.{tetOf, Stored, Counted};
+ghost use Rattle.mesh.specs.BlockLoops.{tetOf, tetsIn, Stored, Counted};
 ghost use Rattle.mesh.specs.FitLoops.{Numbered};
 ghost use Rattle.mesh.specs.CutLoops.{storedUnder, withCount, PairsCut};
 
@@ -33,16 +33,17 @@ fn put_tet(out: &mut [u16], at: usize, t: Tet)
     out[at + 3] = t.3.0;
 }
 
-// The first n of six tetrahedra, from an index on.
-fn put_tets(out: &mut [u16], at: usize, tets: [Tet; 6], n: usize)
+// The tetrahedra of the first n of six keys, from an index on.
+fn put_tets(out: &mut [u16], at: usize, keys: &[u64; 6], n: usize)
     requires { ⌜ n ≤ 6 ⌝ }
     requires { ⌜ at + tetWidth * n ≤ length (now out) ⌝ }
-    ensures { λ _. ⌜ now (out .exit) ≡ placed (now (out .entry)) at (flat (map tetOf (take n tets))) ⌝ }
+    requires { ⌜ n ≤ length (now keys) ⌝ }
+    ensures { λ _. ⌜ now (out .exit) ≡ placed (now (out .entry)) at (flat (tetsIn (now (keys .entry)) n)) ⌝ }
 {
     let mut k = 0;
     while k < n {
-        let t = tets[k];
-        put_tet(out, at + TET * k, t);
+        let key = keys[k];
+        put_tet(out, at + TET * k, blocks::tet_of(key));
         k += 1;
     }
 }
@@ -54,10 +55,9 @@ fn put_element(numbers: &[u16], cuts: &[u8; 1536], out: &mut [u16], at: usize) -
     requires { ⌜ at + tetWidth * length (cut (elementOf (now numbers))) ≤ length (now out) ⌝ }
     ensures { λ r. ⌜ Stored (cut (elementOf (now (numbers .entry)))) at (now (out .entry)) r (now (out .exit)) ⌝ }
 {
-    let block = blocks::block_of(numbers, cuts);
-    let count = block.count;
-    let tets = block.tets;
-    put_tets(out, at, tets, count);
+    let mut keys = [0u64; 6];
+    let count = blocks::block_of(numbers, cuts, &mut keys);
+    put_tets(out, at, &keys, count);
     count
 }
 

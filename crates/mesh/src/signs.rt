@@ -2,7 +2,6 @@
 use crate::JudgeAnswer;
 use crate::SignCounts;
 use crate::blocks;
-use crate::blocks::Block;
 use crate::blocks::Tet;
 use crate::judge;
 use faults::Fault;
@@ -169,13 +168,11 @@ fn with_sign(tally: Tally, sign: Sign) -> Tally
     }
 }
 
-// A block's tetrahedra, counted by sign.
-fn tally_block(block: Block, vertices: &[i32]) -> Tally
-    requires { ⌜ SitedBlock (now vertices) block ⌝ }
-    ensures { λ r. ⌜ Tallied (now (vertices .entry)) (tetsIn block) r ⌝ }
+// The tetrahedra of the first n of six keys, counted by sign.
+fn tally_block(keys: &[u64; 6], n: usize, vertices: &[i32]) -> Tally
+    requires { ⌜ SitedBlock (now vertices) (now keys) n ⌝ }
+    ensures { λ r. ⌜ Tallied (now (vertices .entry)) (tetsIn (now (keys .entry)) n) r ⌝ }
 {
-    let n = block.count;
-    let tets = block.tets;
     let mut tally = Tally {
         positive: 0,
         zero: 0,
@@ -183,8 +180,8 @@ fn tally_block(block: Block, vertices: &[i32]) -> Tally
     };
     let mut k = 0;
     while k < n {
-        let t = tets[k];
-        let next = with_sign(tally, sign_at(t, vertices));
+        let key = keys[k];
+        let next = with_sign(tally, sign_at(blocks::tet_of(key), vertices));
         tally = next;
         k += 1;
     }
@@ -208,8 +205,9 @@ fn element_counts(numbers: &[u16], cuts: &[u8; 1536], vertices: &[i32]) -> SignC
     requires { ⌜ T (every (sited (now vertices)) (usedOf (now numbers))) ⌝ }
     ensures { λ r. ⌜ ofCounts r ≡ signCounts (now (vertices .entry)) (elementOf (now (numbers .entry)) ∷ []) ⌝ }
 {
-    let block = blocks::block_of(numbers, cuts);
-    let tally = tally_block(block, vertices);
+    let mut keys = [0u64; 6];
+    let count = blocks::block_of(numbers, cuts, &mut keys);
+    let tally = tally_block(&keys, count, vertices);
     let positive = tally.positive;
     let zero = tally.zero;
     let negative = tally.negative;

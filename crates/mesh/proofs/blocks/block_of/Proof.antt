@@ -1,8 +1,8 @@
 -- A hexahedron by its row, any other by the fan.
 -- Assumes nothing.
-use mathlib.Core.Path.{sym, _∙_, subst}
+use mathlib.Core.Path.{sym, _∙_}
 use denote.Ref.{now}
-use Rattle.mesh.specs.BlockLoops.{BlockIs}
+use Rattle.mesh.proofs.BlockLaws.{block-same}
 use Rattle.mesh.proofs.RecordCutLaws.{cut-by-row, cut-by-fan, fan-few}
 use borrow.Author.Needs.{needs}
 use Rattle.mesh.proofs.blocks.block_of.Statement.{statement}
@@ -13,25 +13,25 @@ kind-of-requires c κs = search needs
 
 row-block-requires : tie.Need-row-block-requires
 row-block-requires c κs =
-    let s = c .before .before .before in
-    (s .pre .0, (sym (c .before .kind-of .ensures) ∙ c .if1 .taken, s .pre .1))
+    let s = c .before .before .before .before in
+    (s .pre .0, (sym (c .before .before .kind-of .ensures) ∙ c .before .if1 .taken, (s .pre .1 .0, s .pre .1 .1)))
 
 returns : tie.Need-returns
 returns c =
-    let r = now (c .before .before .before .before .args .numbers) in
-    let e = sym (c .before .before .kind-of .ensures) ∙ c .before .if1 .taken in
-    subst (BlockIs (c .row-block .result)) (cut-by-row r (c .before .before .before .before .pre .0) e) (c .row-block .ensures)
+    let s = c .before .before .before .before .before in
+    let e = sym (c .before .before .before .kind-of .ensures) ∙ c .before .before .if1 .taken in
+    block-same (cut-by-row (now (s .args .numbers)) (s .pre .0) e) (c .row-block .ensures)
 
 fan-block-requires : tie.Need-fan-block-requires
 fan-block-requires c κs =
-    let w = c .before .before .before .pre .0 in
-    (w, fan-few (now (c .before .before .before .args .numbers)) w (λ e. c .if1 .left (c .before .kind-of .ensures ∙ e)))
+    let s = c .before .before .before .before in
+    (s .pre .0, (fan-few (now (s .args .numbers)) (s .pre .0) (λ e. c .before .if1 .left (c .before .before .kind-of .ensures ∙ e)), s .pre .1 .1))
 
 returns-2 : tie.Need-returns-2
 returns-2 c =
-    let r = now (c .before .before .before .before .args .numbers) in
-    let kind = c .before .before .kind-of .ensures in
-    subst (BlockIs (c .fan-block .result)) (cut-by-fan r (c .before .before .before .before .pre .0) (λ e. c .before .if1 .left (kind ∙ e))) (c .fan-block .ensures)
+    let s = c .before .before .before .before .before in
+    let kind = c .before .before .before .kind-of .ensures in
+    block-same (cut-by-fan (now (s .args .numbers)) (s .pre .0) (λ e. c .before .before .if1 .left (kind ∙ e))) (c .fan-block .ensures)
 
 pub block-of-spec : {M : Type 1} → statement M
 block-of-spec =

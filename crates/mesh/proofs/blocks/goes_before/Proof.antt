@@ -1,5 +1,7 @@
--- One that was moved goes before, any other by the order.
+-- One that was moved goes before, any other by its key.
 -- Assumes nothing.
+use mathlib.Core.Path.{sym}
+use Rattle.mesh.proofs.KeyLaws.{keys-compare}
 use borrow.Author.Needs.{needs}
 use Rattle.mesh.proofs.blocks.goes_before.Statement.{statement}
 use Rattle.mesh.proofs.blocks.goes_before.Tie as tie
@@ -7,11 +9,8 @@ use Rattle.mesh.proofs.blocks.goes_before.Tie as tie
 returns : tie.Need-returns
 returns c = search needs
 
-up-to-requires : tie.Need-up-to-requires
-up-to-requires c κs = search needs
-
 returns-2 : tie.Need-returns-2
-returns-2 c = rw (c .before .if1 .left) (c .up-to .ensures)
+returns-2 c = rw (c .if1 .left) (sym (keys-compare (c .before .args .key) (c .before .args .other)))
 
 pub goes-before-spec : {M : Type 1} → statement M
-goes-before-spec = tie.close (tie.spec returns up-to-requires returns-2)
+goes-before-spec = tie.close (tie.spec returns returns-2)

@@ -1,12 +1,13 @@
 -- A near face gives none, a far one what its triangles give.
 -- Assumes nothing.
-use mathlib.Core.Path.{_≡_, sym, ap, _∙_, subst}
+use mathlib.Core.Path.{_≡_, sym, ap, _∙_}
 use mathlib.Core.List.{map}
 use lib.ListN.{length, length-map}
 use Rattle.solids.specs.Cut.{halves, cutFace, follow}
-use Rattle.mesh.specs.BlockLoops.{faceOf, faceTets, Grown}
+use Rattle.mesh.specs.BlockLoops.{faceOf, faceTets}
 use native.Mathlib.Omega.{arith}
-use Rattle.mesh.proofs.BlockLaws.{grown-none}
+use denote.Ref.{now}
+use Rattle.mesh.proofs.BlockLaws.{grown-none, regrown}
 use Rattle.mesh.proofs.FanLaws.{near-tets, far-tets}
 use borrow.Author.Needs.{needs}
 use Rattle.mesh.proofs.blocks.with_face.Statement.{statement}
@@ -18,27 +19,27 @@ is-corner-requires c κs = search needs
 returns : tie.Need-returns
 returns c =
     let a = c .before .before .args in
-    rw (near-tets (a .low .0) (faceOf (a .face)) (sym (c .before .is-corner .ensures) ∙ c .if1 .taken)) (grown-none (a .block))
+    rw (near-tets (a .low .0) (faceOf (a .face)) (sym (c .before .is-corner .ensures) ∙ c .if1 .taken)) (grown-none (now (a .keys)) (a .n) (c .before .before .pre .1))
 
 lowest-first-requires : tie.Need-lowest-first-requires
 lowest-first-requires c κs = search needs
 
 with-triangles-requires : tie.Need-with-triangles-requires
 with-triangles-requires c κs =
-    let low = c .before .before .before .args .low .0 in
-    let F = faceOf (c .before .before .before .args .face) in
-    let far = far-tets low F (sym (c .before .before .is-corner .ensures) ∙ c .before .if1 .left) in
+    let s = c .before .before .before .before in
+    let low = s .args .low .0 in
+    let F = faceOf (s .args .face) in
+    let far = far-tets low F (sym (c .before .before .before .is-corner .ensures) ∙ c .before .before .if1 .left) in
     let e : length (faceTets low F) ≡ length (halves (faceOf (c .lowest-first .result))) =
     ap length far ∙ length-map (cutFace F) (follow low) ∙ ap (λ G. length (halves G)) (sym (c .lowest-first .ensures)) in
-    omega (arith, c .before .before .before .pre)
+    (omega (arith, s .pre .0), s .pre .1)
 
 returns-2 : tie.Need-returns-2
 returns-2 c =
-    let b = c .before .before .before .before .args .block in
-    let r = c .with-triangles .result in
-    let low = c .before .before .before .before .args .low .0 in
-    let far = far-tets low (faceOf (c .before .before .before .before .args .face)) (sym (c .before .before .before .is-corner .ensures) ∙ c .before .before .if1 .left) in
-    subst (λ l. Grown b l r) (sym far) (subst (λ G. Grown b (map (follow low) (halves G)) r) (c .before .lowest-first .ensures) (c .with-triangles .ensures))
+    let a = c .before .before .before .before .before .args in
+    let low = a .low .0 in
+    let far = far-tets low (faceOf (a .face)) (sym (c .before .before .before .before .is-corner .ensures) ∙ c .before .before .before .if1 .left) in
+    regrown (ap (λ G. map (follow low) (halves G)) (c .before .lowest-first .ensures) ∙ sym far) (c .with-triangles .ensures)
 
 pub with-face-spec : {M : Type 1} → statement M
 with-face-spec =

@@ -1,30 +1,29 @@
 -- The block of the record, stored.
 -- Assumes nothing.
-use mathlib.Core.Path.{sym, ap, _∙_}
+use mathlib.Core.Path.{refl, sym, ap, _∙_}
 use native.Mathlib.Omega.{arith}
 use denote.Ref.{now}
 use Rattle.laws.specs.Lent.{placed}
 use Rattle.mesh.specs.Cutting.{flat}
-use Rattle.mesh.specs.BlockLoops.{tetsIn}
+use Rattle.mesh.proofs.BlockLaws.{block-long}
 use borrow.Author.Needs.{needs}
 use Rattle.mesh.proofs.cutting.put_element.Statement.{statement}
 use Rattle.mesh.proofs.cutting.put_element.Tie as tie
 
 block-of-requires : tie.Need-block-of-requires
-block-of-requires c κs = (c .before .before .pre .0, c .before .before .pre .1 .0)
+block-of-requires c κs = let s = c .before .before .before in (s .pre .0, (s .pre .1 .0, refl))
 
 put-tets-requires : tie.Need-put-tets-requires
 put-tets-requires c κs =
     let h = c .before .before .block-of .ensures in
-    (omega (arith, h .few), omega (arith, h .many, c .before .before .before .before .before .pre .1 .1))
+    (h .few, (omega (arith, h .many, c .before .before .before .before .before .before .pre .1 .1), block-long h))
 
 same-length : tie.Need-same-length
 same-length c = search needs
 
 returns : tie.Need-returns
-unfolding tetsIn
 returns c =
-    let a = c .before .before .before .before .before .before .before .before .args in
+    let a = c .before .before .before .before .before .before .before .before .before .args in
     let h = c .before .before .before .before .before .block-of .ensures in
     record {
       count = sym (h .many);
