@@ -1,7 +1,7 @@
 -- Laws of the written lines: a line is put together field by field, and how long each line is at most.
 -- Assumes nothing.
 use Prim.Native.Nat.{ℕ, suc, _+_, _*_, _/_, _%_, _^_, _≤_, _<_}
-use native.Mathlib.Nat.{le-refl, not-suc-le-zero}
+use native.Mathlib.Nat.{le-refl, not-suc-le-zero, div-div-eq-div-mul}
 use native.Mathlib.Numerals.{add-one}
 use native.Mathlib.Omega.{arith}
 use mathlib.Core.Path.{_≡_, refl, sym, _∙_}
@@ -57,6 +57,16 @@ module _ {old new : List ℕ} {at r : ℕ} (k : ℕ) where
   pub put-last-digit : {mid : List ℕ} {n x : ℕ} → 10 ≤ k → Put old at (decimal (k / 10)) mid n → Put mid n (x ∷ []) new r → x ≡ digit (k % 10)
       → Put old at (decimal k) new r
   put-last-digit h p q e = rw (decimal-more k h, ← e) (put-two p q)
+
+-- its last two digits
+pub put-last-two-digits : (k : ℕ) {old hundreds tens new : List ℕ} {at n m r x y : ℕ} → 100 ≤ k
+    → Put old at (decimal (k / 100)) hundreds n → Put hundreds n (x ∷ []) tens m → Put tens m (y ∷ []) new r
+    → x ≡ digit (k / 10 % 10) → y ≡ digit (k % 10) → Put old at (decimal k) new r
+put-last-two-digits k {old} {hundreds} {tens} {new} {at} {n} {m} h p q s ex ey =
+    let e : k / 10 / 10 ≡ k / 100 = div-div-eq-div-mul k 10 10 in
+    let upper : Put old at (decimal (k / 10 / 10)) hundreds n = rw e p in
+    let lower : Put old at (decimal (k / 10)) tens m = put-last-digit (k / 10) (omega arith) upper q ex in
+    put-last-digit k (omega arith) lower s ey
 
 -- ---- whole millimetres, a point and three decimals
 

@@ -63,18 +63,6 @@ fn put_below_hundred(line: &mut [u8], at: usize, k: usize) -> usize
     push(line, next, digit(k))
 }
 
-// A number of at most three digits.
-fn put_below_thousand(line: &mut [u8], at: usize, k: usize) -> usize
-    requires { ⌜ k < 1000 ⌝ }
-    ensures { λ r. ⌜ Put (now (line .entry)) at (decimal k) (now (line .exit)) r ⌝ }
-{
-    if k < 10 {
-        return put_below_ten(line, at, k);
-    }
-    let next = put_below_hundred(line, at, k / 10);
-    push(line, next, digit(k))
-}
-
 // At most f digits of k, the last ones.
 fn put_digits(line: &mut [u8], at: usize, k: usize, f: usize) -> usize
     ensures { λ r. ⌜ Put (now (line .entry)) at (digitsOf f k) (now (line .exit)) r ⌝ }
@@ -93,12 +81,13 @@ fn put_digits(line: &mut [u8], at: usize, k: usize, f: usize) -> usize
 fn put_number(line: &mut [u8], at: usize, k: usize) -> usize
     ensures { λ r. ⌜ Put (now (line .entry)) at (decimal k) (now (line .exit)) r ⌝ }
 {
-    if k < 1000 {
-        return put_below_thousand(line, at, k);
+    if k < 100 {
+        return put_below_hundred(line, at, k);
     }
     if k < 10000 {
-        let next = put_below_thousand(line, at, k / 10);
-        return push(line, next, digit(k));
+        let hundreds = put_below_hundred(line, at, k / 100);
+        let tens = push(line, hundreds, digit(k / 10));
+        return push(line, tens, digit(k));
     }
     put_digits(line, at, k, LONGEST_NUMBER)
 }
