@@ -16,8 +16,9 @@ use Rattle.faults.specs.Refusals.{Verdict, accepted, refused, numberOf, refuse,
 use Rattle.solids.specs.Solids.{Element}
 use Rattle.solids.specs.Cut.{cutMesh}
 use Rattle.records.specs.Record.{width, usedOf, spareOf, kindOf, isKind, notZero, recordFinding, recordAt, firstElements}
-use Rattle.mesh.specs.Judge.{mostVertices, mostElements, faultIn, badRecord, badElement, misfit, judged}
-use Rattle.mesh.specs.Cutting.{tetWidth, cutOf}
+use Rattle.records.specs.Limits.{elementLimit, tetrahedronWidth, vertexLimit}
+use Rattle.mesh.specs.Judge.{faultIn, badRecord, badElement, misfit, judged}
+use Rattle.mesh.specs.Cutting.{cutOf}
 use Rattle.mesh.proofs.Theorems.{accepted-tetrahedra}
 use Rattle.text.specs.File.{start, linesOf, fileVerdict}
 use Rattle.text.specs.Records.{elementRecords, recordsFrom, storedElements}
@@ -57,11 +58,11 @@ finding-late v r h = rw (h .none) (go (not (eqb (length r) width && isKind (kind
     go false false true = omega arith
     go false false false = omega arith
 
-module _ (v n : ℕ) (t : List ℕ) (vertices : v ≤ mostVertices) (elements : n ≤ mostElements) (long : width * n ≤ length t) (sound : (k : ℕ) → NoStray v (recordAt t k)) where
+module _ (v n : ℕ) (t : List ℕ) (vertices : v ≤ vertexLimit) (elements : n ≤ elementLimit) (long : width * n ≤ length t) (sound : (k : ℕ) → NoStray v (recordAt t k)) where
   judged-late : AtElements (judged v n t)
   unfolding judged
   judged-late =
-      rw (le-ltb mostVertices v vertices, le-ltb mostElements n elements, le-ltb (length t) (width * n) long)
+      rw (le-ltb vertexLimit v vertices, le-ltb elementLimit n elements, le-ltb (length t) (width * n) long)
       (at-if (ltb 0 (badRecord v t n)) (refuse (faultIn (recordFinding v (recordAt t (pred (badRecord v t n))))) (badRecord v t n)) _
       (record { late = finding-late v (recordAt t (pred (badRecord v t n))) (sound (pred (badRecord v t n))) })
       (at-if (ltb 0 (badElement t n)) (refusePair (badElement t n) (misfit t (pred (badElement t n)))) (accepted (firstElements t n)) (record { late = omega arith }) tt))
@@ -71,8 +72,8 @@ module _ (v n : ℕ) (t : List ℕ) (vertices : v ≤ mostVertices) (elements : 
   cut-late = at-then (judged v n t) _ judged-late room
     where
       room : (es : List Element) → judged v n t ≡ accepted es
-          → AtElements (refuseIf (ltb cutRoom (tetWidth * length (cutMesh es))) (refuse fault.Room 0) (accepted (cutMesh es)))
-      room es e = rw (le-ltb cutRoom (tetWidth * length (cutMesh es)) (omega (arith, accepted-tetrahedra v n t es e))) tt
+          → AtElements (refuseIf (ltb cutRoom (tetrahedronWidth * length (cutMesh es))) (refuse fault.Room 0) (accepted (cutMesh es)))
+      room es e = rw (le-ltb cutRoom (tetrahedronWidth * length (cutMesh es)) (omega (arith, accepted-tetrahedra v n t es e))) tt
 
 -- ---- the conversion
 
@@ -83,8 +84,8 @@ conversion-late input counts e =
     let v : getD counts 0 0 ≡ f .final .vertices = ap (λ (l : List ℕ). getD l 0 0) (f .counts) in
     let n : getD counts 1 0 ≡ f .final .elements = ap (λ (l : List ℕ). getD l 1 0) (f .counts) in
     let t = recordsFrom elementRecords start (linesOf input) in
-    let few : getD counts 0 0 ≤ mostVertices = rw v (f .kept .vertices) in
-    let small : getD counts 1 0 ≤ mostElements = rw n (f .kept .elements) in
+    let few : getD counts 0 0 ≤ vertexLimit = rw v (f .kept .vertices) in
+    let small : getD counts 1 0 ≤ elementLimit = rw n (f .kept .elements) in
     let long : width * getD counts 1 0 ≤ length t = rw (n, f .elements) (omega arith) in
     rw e
     (at-then (cutOf (getD counts 0 0) (getD counts 1 0) t cutRoom) _

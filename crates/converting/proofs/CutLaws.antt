@@ -29,7 +29,7 @@ use Rattle.mesh.specs.declared.CutAnswer.{CutAnswer}
 use Rattle.mesh.specs.declared.CutAnswer.the-variants.{Done, Refused}
 use Rattle.mesh.specs.declared.CutCounts.{CutCounts}
 use Rattle.mesh.specs.Judge.{judged}
-use Rattle.mesh.specs.Cutting.{flat, tetWidth, cutOf, cutVerdict, CutDone}
+use Rattle.mesh.specs.Cutting.{flat, cutOf, cutVerdict, CutDone}
 use Rattle.mesh.proofs.JudgeLaws.{records-inside}
 use Rattle.mesh.proofs.AcceptedLaws.{no-bad-record}
 use Rattle.mesh.proofs.StoreLaws.{length-flat}
@@ -98,8 +98,8 @@ cut-of-table v n t room ts = by (judged v n t) refl
     roomy es q false e = let z : cutMesh es ≡ ts = cc in record { elements = es; sound = q; same = sym z }
 
     by : (x : Verdict (List Element)) → judged v n t ≡ x
-        → andThen x (λ es. refuseIf (ltb room (tetWidth * length (cutMesh es))) (refuse Room 0) (accepted (cutMesh es))) ≡ accepted ts → FromTable v n t ts
-    by (accepted es) q e = roomy es q (ltb room (tetWidth * length (cutMesh es))) e
+        → andThen x (λ es. refuseIf (ltb room (tetrahedronWidth * length (cutMesh es))) (refuse Room 0) (accepted (cutMesh es))) ≡ accepted ts → FromTable v n t ts
+    by (accepted es) q e = roomy es q (ltb room (tetrahedronWidth * length (cutMesh es))) e
     by (refused r) q e = let z : _≡_ {A = ℕ} 0 1 = cc in absurd (omega arith)
 
 module _ (v n : ℕ) (t : List ℕ) (room : ℕ) (ts : List (Tet Vertex)) (e : cutOf v n t room ≡ accepted ts) where

@@ -16,8 +16,9 @@ use Rattle.faults.specs.declared.Refusal.{Refusal}
 use Rattle.faults.specs.Refusals.{Verdict, accepted, refused, refuse, refusePair, refuseIf, andThen}
 use Rattle.records.specs.Record.{width, recordFinding, recordAt, firstElements}
 use Rattle.solids.specs.Cut.{cutMesh}
-use Rattle.mesh.specs.Judge.{mostVertices, mostElements, faultIn, badRecord, badElement, misfit, judged}
-use Rattle.mesh.specs.Cutting.{tetWidth, cutOf}
+use Rattle.records.specs.Limits.{elementLimit, tetrahedronWidth, vertexLimit}
+use Rattle.mesh.specs.Judge.{faultIn, badRecord, badElement, misfit, judged}
+use Rattle.mesh.specs.Cutting.{cutOf}
 use Rattle.text.specs.Constants.{lineEnd, fileLimit}
 use Rattle.text.specs.Line.{lineVerdict}
 use Rattle.text.specs.File.{start, linesOf, atEnd, onward, fileFrom, fileVerdict}
@@ -141,8 +142,8 @@ module _ (m v n : ℕ) (t : List ℕ) (few : n ≤ m) where
   judged-small =
       let k = badRecord v t n in
       let j = badElement t n in
-      small-if m (ltb mostVertices v) (refuse fault.Many 0) _ nowhere
-      (small-if m (ltb mostElements n) (refuse fault.Many 0) _ nowhere
+      small-if m (ltb vertexLimit v) (refuse fault.Many 0) _ nowhere
+      (small-if m (ltb elementLimit n) (refuse fault.Many 0) _ nowhere
       (small-if m (ltb (length t) (width * n)) (refuse fault.Room 0) _ no-room
       (small-if m (ltb 0 k) (refuse (faultIn (recordFinding v (recordAt t (pred k)))) k) _ (record { place = omega (arith, at-record); second = zero-le })
       (small-if m (ltb 0 j) (refusePair j (misfit t (pred j))) (accepted (firstElements t n))
@@ -151,8 +152,8 @@ module _ (m v n : ℕ) (t : List ℕ) (few : n ≤ m) where
   cut-small : (room : ℕ) → Small m (cutOf v n t room)
   unfolding cutOf
   cut-small room =
-      small-then m (judged v n t) (λ es. refuseIf (ltb room (tetWidth * length (cutMesh es))) (refuse fault.Room 0) (accepted (cutMesh es))) judged-small
-      (λ es e. small-if m (ltb room (tetWidth * length (cutMesh es))) (refuse fault.Room 0) (accepted (cutMesh es)) no-room tt)
+      small-then m (judged v n t) (λ es. refuseIf (ltb room (tetrahedronWidth * length (cutMesh es))) (refuse fault.Room 0) (accepted (cutMesh es))) judged-small
+      (λ es e. small-if m (ltb room (tetrahedronWidth * length (cutMesh es))) (refuse fault.Room 0) (accepted (cutMesh es)) no-room tt)
 
 -- ---- the conversion
 

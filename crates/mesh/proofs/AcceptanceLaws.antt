@@ -17,7 +17,8 @@ use Rattle.faults.specs.Refusals.{accepted}
 use Rattle.solids.specs.Solids.{Element}
 use Rattle.solids.specs.Fit.{proper, fits, fitting}
 use Rattle.records.specs.Record.{width, recordFinding, recordCount, recordAt, elementAt, firstElements}
-use Rattle.mesh.specs.Judge.{mostElements, isFault, badRecord, pairFits, misfit, badElement, judged}
+use Rattle.records.specs.Limits.{elementLimit}
+use Rattle.mesh.specs.Judge.{isFault, badRecord, pairFits, misfit, badElement, judged}
 use Rattle.mesh.specs.Acceptance.{Acceptable}
 use Rattle.records.proofs.Theorems.{clean-whole, first-each, first-proper}
 use Rattle.mesh.proofs.VerdictLaws.{all-clean, all-fit}
@@ -80,7 +81,7 @@ accepted-acceptable v n t es e = record {
 }
 
 -- records without a fault hold proper elements
-pub clean-proper : (v n : ℕ) (t : List ℕ) → n ≤ mostElements → width * n ≤ length t → ((k : ℕ) → k < n → recordFinding v (recordAt t k) ≡ Clean)
+pub clean-proper : (v n : ℕ) (t : List ℕ) → n ≤ elementLimit → width * n ≤ length t → ((k : ℕ) → k < n → recordFinding v (recordAt t k) ≡ Clean)
     → T (every proper (firstElements t n))
 clean-proper v n t few long clean =
     first-proper t n (record { few = few; long = long; whole = λ k h. clean-whole v (recordAt t k) (clean k h) })

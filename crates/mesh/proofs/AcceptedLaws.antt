@@ -22,8 +22,9 @@ use Rattle.solids.specs.Solids.{Element}
 use Rattle.solids.specs.Fit.{proper, fitting}
 use Rattle.records.specs.Record.{width, recordFinding, recordAt, firstElements}
 use Rattle.records.proofs.Theorems.{first-length, first-proper}
-use Rattle.mesh.specs.Judge.{mostVertices, mostElements, faultIn, badRecord, badElement, misfit, judged}
-use Rattle.mesh.specs.Signs.{vertexWidth, badPoint, signCounts, signsOf, isAccepted, acceptedTables}
+use Rattle.records.specs.Limits.{elementLimit, vertexLimit, vertexWidth}
+use Rattle.mesh.specs.Judge.{faultIn, badRecord, badElement, misfit, judged}
+use Rattle.mesh.specs.Signs.{badPoint, signCounts, signsOf, isAccepted, acceptedTables}
 use Rattle.mesh.proofs.JudgeLaws.{record-clean, records-whole}
 use Rattle.mesh.proofs.FittingLaws.{none-bad-fitting}
 
@@ -60,15 +61,15 @@ module _ (v n : ℕ) (t : List ℕ) (es : List Element) (e : judged v n t ≡ ac
 
   elements : Verdict (List Element)
   unfolding lengths
-  elements = refuseIf (ltb mostElements n) (refuse Many 0) lengths
+  elements = refuseIf (ltb elementLimit n) (refuse Many 0) lengths
 
-  p₁ : Passed (ltb mostVertices v) elements es
+  p₁ : Passed (ltb vertexLimit v) elements es
   unfolding judged elements lengths records pairs last k j
-  p₁ = passed (ltb mostVertices v) (refuse Many 0) elements es e
+  p₁ = passed (ltb vertexLimit v) (refuse Many 0) elements es e
 
-  p₂ : Passed (ltb mostElements n) lengths es
+  p₂ : Passed (ltb elementLimit n) lengths es
   unfolding elements
-  p₂ = passed (ltb mostElements n) (refuse Many 0) lengths es (p₁ .rest)
+  p₂ = passed (ltb elementLimit n) (refuse Many 0) lengths es (p₁ .rest)
 
   p₃ : Passed (ltb (length t) (width * n)) records es
   unfolding lengths
@@ -90,11 +91,11 @@ module _ (v n : ℕ) (t : List ℕ) (es : List Element) (e : judged v n t ≡ ac
   unfolding j
   no-bad-element = let h = ltb-false 0 j (p₅ .no) in omega arith
 
-  pub accepted-vertices : v ≤ mostVertices
-  accepted-vertices = ltb-false mostVertices v (p₁ .no)
+  pub accepted-vertices : v ≤ vertexLimit
+  accepted-vertices = ltb-false vertexLimit v (p₁ .no)
 
-  pub accepted-count : n ≤ mostElements
-  accepted-count = ltb-false mostElements n (p₂ .no)
+  pub accepted-count : n ≤ elementLimit
+  accepted-count = ltb-false elementLimit n (p₂ .no)
 
   pub accepted-long : width * n ≤ length t
   accepted-long = ltb-false (length t) (width * n) (p₃ .no)
@@ -129,8 +130,8 @@ then (refused r) next x e = let z : _≡_ {A = ℕ} 0 1 = cc in absurd (omega ar
 
 -- the counts are within the limits, both tables are long enough, each point is within the limits, no record has a fault
 pub record SignAccepted (v n : ℕ) (t : List ℕ) (table : List ℤ) : Type 0 where
-  pub vertices : v ≤ mostVertices
-  pub elements : n ≤ mostElements
+  pub vertices : v ≤ vertexLimit
+  pub elements : n ≤ elementLimit
   pub vertexRoom : vertexWidth * v ≤ length table
   pub elementRoom : width * n ≤ length t
   pub ranged : (k : ℕ) → k < v → pointInRange (pointAt table (k + 1)) ≡ true

@@ -20,7 +20,8 @@ use Rattle.solids.specs.Fit.{common, fits}
 use Rattle.records.specs.Record.{width, kindOf, numbersOf, usedOf, spareOf, recordAt, elementOf, elementAt}
 use Rattle.records.specs.Loops.{isNumber, Faultless, WholeTable}
 use Rattle.records.proofs.RecordLaws.{used-length, kind-small, record-parts, clean-faultless}
-use Rattle.mesh.specs.Judge.{mostVertices, mostElements, badRecord, pairFits, misfit}
+use Rattle.records.specs.Limits.{elementLimit, vertexLimit}
+use Rattle.mesh.specs.Judge.{badRecord, pairFits, misfit}
 use Rattle.mesh.proofs.JudgeLaws.{record-clean}
 use Rattle.mesh.specs.JudgeLoops.{Recorded}
 use Rattle.mesh.specs.FitLoops.{Numbered, holds, latest, Filed, Seen}
@@ -101,14 +102,14 @@ numbered-front t n m w h = record {
 
 -- a vertex number is at most 4,096
 abbrev lowNumber : ℕ → Bool
-lowNumber v = leb v mostVertices
+lowNumber v = leb v vertexLimit
 
-module _ (limit : ℕ) (few : limit ≤ mostVertices) where
+module _ (limit : ℕ) (few : limit ≤ vertexLimit) where
   inside-low : (v : ℕ) → T (isNumber limit v) → T (lowNumber v)
-  inside-low v h = true-T (le-leb v mostVertices (let l = leb-true v limit (T-true _ (and-right (ltb 0 v) (leb v limit) h)) in omega arith))
+  inside-low v h = true-T (le-leb v vertexLimit (let l = leb-true v limit (T-true _ (and-right (ltb 0 v) (leb v limit) h)) in omega arith))
 
   zero-low : (v : ℕ) → T (eqb 0 v) → T (lowNumber v)
-  zero-low v h = true-T (le-leb v mostVertices (let e = eqb-true 0 v (T-true _ h) in omega arith))
+  zero-low v h = true-T (le-leb v vertexLimit (let e = eqb-true 0 v (T-true _ h) in omega arith))
 
   -- the numbers of a record without a fault
   faultless-low : (r : List ℕ) → Faultless limit r → (a : ℕ) → a < 8 → T (lowNumber (getD r (suc a) 0))
@@ -124,7 +125,7 @@ module _ (limit : ℕ) (few : limit ≤ mostVertices) where
   -- a table of records without a fault
   clean-numbered : (t : List ℕ) (n : ℕ) → WholeTable t n → badRecord limit t n ≡ 0 → Numbered t n
   unfolding recordAt
-  clean-numbered t n w none = record { table = w; low = λ x h p. leb-true (getD t x 0) mostVertices (T-true _ (at-place x h p)) }
+  clean-numbered t n w none = record { table = w; low = λ x h p. leb-true (getD t x 0) vertexLimit (T-true _ (at-place x h p)) }
     where
       here : (x a : ℕ) → x % width ≡ suc a → getD (recordAt t (x / width)) (suc a) 0 ≡ getD t x 0
       here x a e =
@@ -176,9 +177,9 @@ filed-kind t j w = record {
 
 -- a place is filed
 module _ (t : List ℕ) (x : ℕ) {heads links : List ℕ} (w : Filed t x heads links) (place : 0 < x % width) (v : ℕ) (this : v ≡ getD t x 0)
-    (low : v ≤ mostVertices) (early : x < width * mostElements)
+    (low : v ≤ vertexLimit) (early : x < width * elementLimit)
   where
-    firsts : (u : ℕ) → u ≤ mostVertices → getD (set heads v x) u 0 ≡ latest (holds t u) (x + 1)
+    firsts : (u : ℕ) → u ≤ vertexLimit → getD (set heads v x) u 0 ≡ latest (holds t u) (x + 1)
     unfolding latest
     firsts u h = rw (add-one x) (go (eqb u v) refl)
       where

@@ -15,13 +15,14 @@ use Rattle.faults.specs.declared.Refusal.{Refusal}
 use Rattle.faults.specs.Refusals.{Verdict, accepted, refused, refuse, andThen, recordsOf, answerOf}
 use Rattle.solids.specs.Solids.{Tet, Element}
 use Rattle.records.specs.Loops.{WholeTable}
+use Rattle.records.specs.Limits.{tetrahedronWidth}
 use Rattle.mesh.specs.declared.JudgeAnswer.{JudgeAnswer}
 use Rattle.mesh.specs.declared.JudgeAnswer.the-variants as judge
 use Rattle.mesh.specs.declared.CutAnswer.{CutAnswer}
 use Rattle.mesh.specs.declared.CutAnswer.the-variants as cut
 use Rattle.mesh.specs.Judge.{judged, judgeVerdict, JudgeDone}
 use Rattle.mesh.specs.JudgeLoops.{answerFrom, firstRefusal, roomAnswer, pairsJudged, Recorded, RecordsJudging, Judging}
-use Rattle.mesh.specs.Cutting.{tetWidth, flat, cutOf, cutVerdict, CutDone}
+use Rattle.mesh.specs.Cutting.{flat, cutOf, cutVerdict, CutDone}
 use Rattle.mesh.specs.CutLoops.{storedUnder, withCount, pairsCut, PairsCut}
 use Rattle.mesh.proofs.VerdictLaws.{pairs-accepted}
 use Rattle.mesh.proofs.MeshCutLaws.{cutTo, cut-none}
@@ -64,21 +65,21 @@ stored-whole t n h (judge.Refused x) = record { few = omega arith; long = omega 
 
 module _ (t : List ℕ) (n : ℕ) (old : List ℕ) where
   abbrev wanted : ℕ
-  wanted = tetWidth * length (cutTo t n)
+  wanted = tetrahedronWidth * length (cutTo t n)
 
   -- the code's answer: the first refusal of pairs and room
   abbrev pub Both : JudgeAnswer → Type 0
   Both a = a ≡ firstRefusal (answerFrom (pairsJudged t n)) (roomAnswer (length old) wanted)
 
   -- made of what the calls say
-  pub both : {a p r : JudgeAnswer} {count m : ℕ} → count ≡ length (cutTo t n) → m ≡ tetWidth * count → p ≡ answerFrom (pairsJudged t n)
+  pub both : {a p r : JudgeAnswer} {count m : ℕ} → count ≡ length (cutTo t n) → m ≡ tetrahedronWidth * count → p ≡ answerFrom (pairsJudged t n)
       → r ≡ roomAnswer (length old) m → a ≡ firstRefusal p r → Both a
   both {r} e f said-pairs said-room said =
       said ∙ ap (λ x. firstRefusal x r) said-pairs
-      ∙ ap (firstRefusal (answerFrom (pairsJudged t n))) (said-room ∙ ap (roomAnswer (length old)) (f ∙ ap (λ (k : ℕ). tetWidth * k) e))
+      ∙ ap (firstRefusal (answerFrom (pairsJudged t n))) (said-room ∙ ap (roomAnswer (length old)) (f ∙ ap (λ (k : ℕ). tetrahedronWidth * k) e))
 
   -- what is stored has room
-  pub stored-room : (a : JudgeAnswer) → Both a → tetWidth * length (cutTo t (storedUnder a n)) ≤ length old
+  pub stored-room : (a : JudgeAnswer) → Both a → tetrahedronWidth * length (cutTo t (storedUnder a n)) ≤ length old
   stored-room judge.Done e = room-done (length old) wanted (later-done (answerFrom (pairsJudged t n)) _ (sym e))
   stored-room (judge.Refused x) e = rw (cut-none t) (omega arith)
 

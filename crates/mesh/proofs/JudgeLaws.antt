@@ -13,7 +13,8 @@ use Rattle.faults.specs.declared.Finding.the-variants.{Clean, Found}
 use Rattle.records.specs.Record.{width, usedOf, recordFinding, recordAt}
 use Rattle.records.specs.Loops.{isNumber, WholeTable}
 use Rattle.records.proofs.Theorems.{clean-whole, clean-faultless}
-use Rattle.mesh.specs.Judge.{mostElements, isFault, badRecord}
+use Rattle.records.specs.Limits.{elementLimit}
+use Rattle.mesh.specs.Judge.{isFault, badRecord}
 
 -- a finding that is no fault is clean
 no-fault : (f : Finding) → isFault f ≡ false → f ≡ Clean
@@ -26,7 +27,7 @@ module _ (limit : ℕ) (t : List ℕ) (n : ℕ) (none : badRecord limit t n ≡ 
   record-clean k h =
       no-fault (recordFinding limit (recordAt t k)) (least-all (λ j. isFault (recordFinding limit (recordAt t j))) n none k h)
 
-  pub records-whole : n ≤ mostElements → width * n ≤ length t → WholeTable t n
+  pub records-whole : n ≤ elementLimit → width * n ≤ length t → WholeTable t n
   records-whole few long = record {
     few = few;
     long = long;

@@ -12,7 +12,8 @@ use Rattle.laws.proofs.ListLaws.{gather-append}
 use Rattle.solids.specs.Solids.{Tet}
 use Rattle.solids.specs.Cut.{cut, cutMesh}
 use Rattle.records.specs.Record.{elementOf, recordAt, elementAt, firstElements}
-use Rattle.mesh.specs.Cutting.{tetWidth, flat}
+use Rattle.records.specs.Limits.{tetrahedronWidth}
+use Rattle.mesh.specs.Cutting.{flat}
 use Rattle.mesh.proofs.StoreLaws.{placed-after}
 
 module _ (t : List ℕ) where
@@ -48,7 +49,7 @@ module _ (t : List ℕ) where
   count-most {k} {n} h = rw (add-sub-of-le h) at (grows (n - k) k)
 
   -- the next element's tetrahedra, placed after those before it
-  pub placed-element : (l : List ℕ) (k : ℕ) {m : ℕ} → m ≡ length (cutTo k) → tetWidth * length (cutTo k) ≤ length l
-      → placed (placed l 0 (flat (cutTo k))) (tetWidth * m) (flat (cutAt k)) ≡ placed l 0 (flat (cutTo (k + 1)))
+  pub placed-element : (l : List ℕ) (k : ℕ) {m : ℕ} → m ≡ length (cutTo k) → tetrahedronWidth * length (cutTo k) ≤ length l
+      → placed (placed l 0 (flat (cutTo k))) (tetrahedronWidth * m) (flat (cutAt k)) ≡ placed l 0 (flat (cutTo (k + 1)))
   placed-element l k e h =
       placed-after l 0 (cutTo k) (cutAt k) (omega arith) (omega arith) ∙ ap (λ ts. placed l 0 (flat ts)) (sym (cut-next k))

@@ -18,6 +18,7 @@ use Rattle.faults.specs.declared.Refusal.{Refusal}
 use Rattle.faults.specs.Refusals.{Verdict, accepted, refused, refuse, refuseIf, answerOf}
 use Rattle.solids.specs.Solids.{Tet, Element}
 use Rattle.solids.specs.Cut.{cut, cutMesh}
+use Rattle.records.specs.Limits.{vertexWidth}
 use Rattle.mesh.specs.declared.JudgeAnswer.the-variants as judge
 use Rattle.mesh.specs.declared.SignCounts.{SignCounts}
 use Rattle.mesh.specs.declared.signs.Sign.{Sign}
@@ -27,7 +28,7 @@ use Rattle.mesh.specs.declared.SignAnswer.{SignAnswer}
 use Rattle.mesh.specs.declared.SignAnswer.the-variants.{Done, Refused}
 use Rattle.mesh.specs.Judge.{judged}
 use Rattle.mesh.specs.JudgeLoops.{firstRefusal, roomAnswer}
-use Rattle.mesh.specs.Signs.{vertexWidth, volumeIn, isPositive, isZero, isNegative, sound, signCounts, badPoint, signsOf, signVerdict, SignDone}
+use Rattle.mesh.specs.Signs.{volumeIn, isPositive, isZero, isNegative, sound, signCounts, badPoint, signsOf, signVerdict, SignDone}
 use Rattle.mesh.specs.BlockLoops.{tetsIn, BlockIs}
 use Rattle.mesh.specs.SignLoops.{rangeAnswer, verticesAnswer, signOf, withSign, Tallied, allPositive, ofCounts, FewSums, Summed}
 use Rattle.laws.proofs.ListLaws.{gather-append}

@@ -21,8 +21,9 @@ use Rattle.solids.proofs.Theorems.{plain}
 use Rattle.records.specs.Record.{usedOf, elementOf, recordAt}
 use Rattle.records.specs.Loops.{isNumber, Whole}
 use Rattle.records.proofs.Theorems.{whole-proper}
+use Rattle.records.specs.Limits.{vertexWidth}
 use Rattle.mesh.specs.Judge.{badRecord}
-use Rattle.mesh.specs.Signs.{vertexWidth, badPoint}
+use Rattle.mesh.specs.Signs.{badPoint}
 use Rattle.mesh.specs.BlockLoops.{BlockIs}
 use Rattle.mesh.specs.SignLoops.{sited, sitedTet, SitedBlock, SitedTable}
 use Rattle.mesh.proofs.JudgeLaws.{records-inside}

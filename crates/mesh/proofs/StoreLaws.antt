@@ -10,20 +10,21 @@ use Rattle.laws.specs.Lent.{placed}
 use Rattle.laws.proofs.LentLaws.{placed-placed}
 use Rattle.laws.proofs.ListLaws.{gather-append}
 use Rattle.solids.specs.Solids.{Tet, tet, ofTet}
-use Rattle.mesh.specs.Cutting.{tetWidth, flat}
+use Rattle.records.specs.Limits.{tetrahedronWidth}
+use Rattle.mesh.specs.Cutting.{flat}
 use Rattle.mesh.specs.BlockLoops.{keyed}
 
 pub flat-append : (x y : List (Tet ℕ)) → flat (x ++ y) ≡ flat x ++ flat y
 unfolding flat
 flat-append x y = gather-append ofTet x y
 
-pub length-flat : (x : List (Tet ℕ)) → length (flat x) ≡ tetWidth * length x
+pub length-flat : (x : List (Tet ℕ)) → length (flat x) ≡ tetrahedronWidth * length x
 unfolding flat
 length-flat [] = refl
 length-flat (tet a b c d ∷ x) = omega (arith, length-flat x)
 
 -- tetrahedra placed right after others
-pub placed-after : (l : List ℕ) (at : ℕ) (x y : List (Tet ℕ)) {m : ℕ} → m ≡ at + tetWidth * length x → at + tetWidth * length x ≤ length l
+pub placed-after : (l : List ℕ) (at : ℕ) (x y : List (Tet ℕ)) {m : ℕ} → m ≡ at + tetrahedronWidth * length x → at + tetrahedronWidth * length x ≤ length l
     → placed (placed l at (flat x)) m (flat y) ≡ placed l at (flat (x ++ y))
 placed-after l at x y e h =
     let f = length-flat x in
@@ -33,8 +34,8 @@ placed-after l at x y e h =
     ∙ ap (placed l at) (sym (flat-append x y))
 
 -- one tetrahedron more of an array of keys
-pub placed-next : (l : List ℕ) (at : ℕ) (b : List ℕ) (k : ℕ) (d : ℕ) → k < length b → at + tetWidth * k ≤ length l
-    → placed (placed l at (flat (map keyed (take k b)))) (at + tetWidth * k) (flat (keyed (getD b k d) ∷ [])) ≡ placed l at (flat (map keyed (take (suc k) b)))
+pub placed-next : (l : List ℕ) (at : ℕ) (b : List ℕ) (k : ℕ) (d : ℕ) → k < length b → at + tetrahedronWidth * k ≤ length l
+    → placed (placed l at (flat (map keyed (take k b)))) (at + tetrahedronWidth * k) (flat (keyed (getD b k d) ∷ [])) ≡ placed l at (flat (map keyed (take (suc k) b)))
 placed-next l at b k d h room =
     let m : length (map keyed (take k b)) ≡ k = length-map (take k b) keyed ∙ length-take-le k b (omega arith) in
     placed-after l at (map keyed (take k b)) (keyed (getD b k d) ∷ []) (omega arith) (omega arith)

@@ -16,9 +16,10 @@ use Rattle.faults.specs.declared.Refusal.{Refusal}
 use Rattle.faults.specs.Refusals.{Verdict, accepted, refused, refuse, refusePair, refuseIf}
 use Rattle.solids.specs.Solids.{Element}
 use Rattle.records.specs.Record.{width, recordFinding, recordCount, recordAt, firstElements}
+use Rattle.records.specs.Limits.{elementLimit, vertexLimit}
 use Rattle.mesh.specs.declared.JudgeAnswer.{JudgeAnswer}
 use Rattle.mesh.specs.declared.JudgeAnswer.the-variants.{Done, Refused}
-use Rattle.mesh.specs.Judge.{mostVertices, mostElements, faultIn, badRecord, badElement, misfit, judged}
+use Rattle.mesh.specs.Judge.{faultIn, badRecord, badElement, misfit, judged}
 use Rattle.mesh.specs.JudgeLoops.{answerFrom, pairsJudged, Recorded, RecordsJudging, Judging}
 use Rattle.mesh.proofs.JudgeLaws.{records-whole}
 
@@ -40,19 +41,19 @@ none k e h = omega arith
 -- ---- the tests
 
 module _ (v n : ℕ) (t : List ℕ) where
-  pub too-many-vertices : mostVertices < v → judged v n t ≡ refused (refuse Many 0)
+  pub too-many-vertices : vertexLimit < v → judged v n t ≡ refused (refuse Many 0)
   unfolding judged
-  too-many-vertices h = rw (lt-ltb mostVertices v h)
+  too-many-vertices h = rw (lt-ltb vertexLimit v h)
 
-  module _ (a : v ≤ mostVertices) where
-    pub too-many-elements : mostElements < n → judged v n t ≡ refused (refuse Many 0)
+  module _ (a : v ≤ vertexLimit) where
+    pub too-many-elements : elementLimit < n → judged v n t ≡ refused (refuse Many 0)
     unfolding judged
-    too-many-elements h = rw (le-ltb mostVertices v a, lt-ltb mostElements n h)
+    too-many-elements h = rw (le-ltb vertexLimit v a, lt-ltb elementLimit n h)
 
-    module _ (b : n ≤ mostElements) where
+    module _ (b : n ≤ elementLimit) where
       pub too-short : recordCount t < n → judged v n t ≡ refused (refuse Room 0)
       unfolding judged recordCount
-      too-short h = rw (le-ltb mostVertices v a, le-ltb mostElements n b, lt-ltb (length t) (width * n) (omega arith))
+      too-short h = rw (le-ltb vertexLimit v a, le-ltb elementLimit n b, lt-ltb (length t) (width * n) (omega arith))
 
       module _ (c : n ≤ recordCount t) where
         long : width * n ≤ length t
@@ -62,12 +63,12 @@ module _ (v n : ℕ) (t : List ℕ) where
         pub bad-record : (k : ℕ) → k ≡ badRecord v t n → 0 < k → judged v n t ≡ refused (refuse (faultIn (recordFinding v (recordAt t (pred k)))) k)
         unfolding judged
         bad-record k e h =
-            rw (le-ltb mostVertices v a, le-ltb mostElements n b, le-ltb (length t) (width * n) long, ← e, lt-ltb 0 k h)
+            rw (le-ltb vertexLimit v a, le-ltb elementLimit n b, le-ltb (length t) (width * n) long, ← e, lt-ltb 0 k h)
 
         pub all-clean : badRecord v t n ≡ 0 → Recorded v n t
         unfolding judged pairsJudged
         all-clean d = record {
-          verdict = rw (le-ltb mostVertices v a, le-ltb mostElements n b, le-ltb (length t) (width * n) long, d);
+          verdict = rw (le-ltb vertexLimit v a, le-ltb elementLimit n b, le-ltb (length t) (width * n) long, d);
           few = a;
           table = records-whole v t n d b long;
           clean = d;

@@ -15,10 +15,6 @@ use Rattle.mesh.specs.declared.CutAnswer.{CutAnswer}
 use Rattle.mesh.specs.declared.CutAnswer.the-variants.{Done, Refused}
 use Rattle.mesh.specs.Judge.{judged}
 
--- a tetrahedron of the output is four vertex numbers
-abbrev pub tetWidth : ℕ
-tetWidth = tetrahedronWidth
-
 -- tetrahedra as numbers, one after the other
 unfoldable pub flat : List (Tet Vertex) → List ℕ
 flat ts = gather ofTet ts
@@ -26,7 +22,7 @@ flat ts = gather ofTet ts
 -- the tetrahedra of a table that is judged sound and whose cut has room, or the first fault
 unfoldable pub cutOf : (vertexCount elementCount : ℕ) → List ℕ → (room : ℕ) → Verdict (List (Tet Vertex))
 cutOf v n t room =
-    andThen (judged v n t) λ es. refuseIf (ltb room (tetWidth * length (cutMesh es))) (refuse Room 0) (accepted (cutMesh es))
+    andThen (judged v n t) λ es. refuseIf (ltb room (tetrahedronWidth * length (cutMesh es))) (refuse Room 0) (accepted (cutMesh es))
 
 -- the answer of cutting as a verdict: its one value is the number of tetrahedra
 abbrev pub cutVerdict : CutAnswer → Verdict (List ℕ)

@@ -8,7 +8,8 @@ use lib.ListN.{length, getD, take}
 use Rattle.laws.specs.Words.{keep, among}
 use Rattle.records.specs.Record.{width}
 use Rattle.records.specs.Loops.{WholeTable}
-use Rattle.mesh.specs.Judge.{mostVertices, mostElements, pairFits, misfit}
+use Rattle.records.specs.Limits.{elementLimit, vertexLimit}
+use Rattle.mesh.specs.Judge.{pairFits, misfit}
 use Rattle.solids.specs.Solids.{Vertex, Face, three, four}
 use Rattle.mesh.specs.declared.fit.cycles.Cycle.{Cycle}
 use Rattle.mesh.specs.declared.fit.cycles.Cycle.the-variants.{Three, Four}
@@ -28,7 +29,7 @@ pub record Collected (corners others memory : List ℕ) (r : ℕ) : Type 0 where
 -- n whole records stand in the table, and each vertex number is at most 4,096
 pub record Numbered (t : List ℕ) (n : ℕ) : Type 0 where
   pub table : WholeTable t n
-  pub low : (x : ℕ) → x < width * n → 0 < x % width → getD t x 0 ≤ mostVertices
+  pub low : (x : ℕ) → x < width * n → 0 < x % width → getD t x 0 ≤ vertexLimit
 
 -- index x of a table is a place and no kind, and the vertex v stands there
 unfoldable pub holds : List ℕ → ℕ → ℕ → Bool
@@ -41,9 +42,9 @@ latest p (suc m) = cond (p m) m (latest p m)
 
 -- of the places before index m, `heads` has the last of each vertex, and `links` for each place the one before it of the same vertex
 pub record Filed (t : List ℕ) (m : ℕ) (heads links : List ℕ) : Type 0 where
-  pub wide : length heads ≡ mostVertices + 1
-  pub long : length links ≡ width * mostElements
-  pub first : (v : ℕ) → v ≤ mostVertices → getD heads v 0 ≡ latest (holds t v) m
+  pub wide : length heads ≡ vertexLimit + 1
+  pub long : length links ≡ width * elementLimit
+  pub first : (v : ℕ) → v ≤ vertexLimit → getD heads v 0 ≡ latest (holds t v) m
   pub next : (x : ℕ) → x < m → 0 < x % width → getD links x 0 ≡ latest (holds t (getD t x 0)) x
 
 -- the elements that are marked fit element j
@@ -69,7 +70,7 @@ pub record Met (t : List ℕ) (i j : ℕ) (marks : List ℕ) (r : Bool) : Type 0
 -- the chain of a vertex is to be walked
 pub record Walking (t : List ℕ) (j v : ℕ) (heads links marks : List ℕ) : Type 0 where
   pub table : WholeTable t (j + 1)
-  pub low : v ≤ mostVertices
+  pub low : v ≤ vertexLimit
   pub filed : Filed t (width * j) heads links
   pub seen : Seen t j marks
 

@@ -19,13 +19,6 @@ use Rattle.mesh.specs.declared.JudgeAnswer.the-variants.{Done, Refused}
 use Rattle.records.specs.Limits.{vertexLimit, elementLimit}
 use Rattle.records.specs.Record.{width, recordFinding, recordAt, elementAt, firstElements}
 
--- at most 4,096 vertices, 1,024 elements
-abbrev pub mostVertices : ℕ
-mostVertices = vertexLimit
-
-abbrev pub mostElements : ℕ
-mostElements = elementLimit
-
 -- a finding is a fault
 abbrev pub isFault : Finding → Bool
 isFault Clean = false
@@ -55,8 +48,8 @@ badElement t n = least (λ j. ltb 0 (misfit t j)) n
 -- what a table is judged to be: its elements, or the first fault
 unfoldable pub judged : (vertexCount elementCount : ℕ) → List ℕ → Verdict (List Element)
 judged v n t =
-    refuseIf (ltb mostVertices v) (refuse Many 0)
-    (refuseIf (ltb mostElements n) (refuse Many 0)
+    refuseIf (ltb vertexLimit v) (refuse Many 0)
+    (refuseIf (ltb elementLimit n) (refuse Many 0)
     (refuseIf (ltb (length t) (width * n)) (refuse Room 0)
     (let k = badRecord v t n in refuseIf (ltb 0 k) (refuse (faultIn (recordFinding v (recordAt t (pred k)))) k)
     (let j = badElement t n in refuseIf (ltb 0 j) (refusePair j (misfit t (pred j)))

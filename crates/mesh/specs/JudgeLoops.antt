@@ -9,9 +9,10 @@ use Rattle.faults.specs.Refusals.{Verdict, accepted, refused, refuse, refusePai
 use Rattle.solids.specs.Solids.{Element}
 use Rattle.records.specs.Record.{firstElements}
 use Rattle.records.specs.Loops.{WholeTable}
+use Rattle.records.specs.Limits.{vertexLimit}
 use Rattle.mesh.specs.declared.JudgeAnswer.{JudgeAnswer}
 use Rattle.mesh.specs.declared.JudgeAnswer.the-variants.{Done, Refused}
-use Rattle.mesh.specs.Judge.{mostVertices, badRecord, badElement, misfit, judged}
+use Rattle.mesh.specs.Judge.{badRecord, badElement, misfit, judged}
 
 -- ---- answers
 
@@ -38,7 +39,7 @@ pairsJudged t n = let j = badElement t n in refuseIf (ltb 0 j) (refusePair j (mi
 -- a table of whole records, none of which has a fault: its pairs are left to be judged
 pub record Recorded (v n : ℕ) (t : List ℕ) : Type 0 where
   pub verdict : judged v n t ≡ pairsJudged t n
-  pub few : v ≤ mostVertices
+  pub few : v ≤ vertexLimit
   pub table : WholeTable t n
   pub clean : badRecord v t n ≡ 0
 
@@ -50,7 +51,7 @@ RecordsJudging v n t (Refused r) = judged v n t ≡ refused r
 -- a table that is accepted: its elements, its records are whole, and none has a fault
 pub record Accepted (v n : ℕ) (t : List ℕ) : Type 0 where
   pub verdict : judged v n t ≡ accepted (firstElements t n)
-  pub few : v ≤ mostVertices
+  pub few : v ≤ vertexLimit
   pub table : WholeTable t n
   pub clean : badRecord v t n ≡ 0
 

@@ -14,14 +14,10 @@ use Rattle.faults.specs.Refusals.{Verdict, accepted, refused, refuse, refuseIf,
 use Rattle.volume.specs.Volume.{pointInRange, pointAt, sixfoldAt}
 use Rattle.solids.specs.Solids.{Vertex, Tet, tet, Element}
 use Rattle.solids.specs.Cut.{cut, cutMesh}
-use Rattle.records.specs.Limits as limits
+use Rattle.records.specs.Limits.{vertexWidth}
 use Rattle.mesh.specs.declared.SignAnswer.{SignAnswer}
 use Rattle.mesh.specs.declared.SignAnswer.the-variants.{Done, Refused}
 use Rattle.mesh.specs.Judge.{judged}
-
--- a vertex is three signed numbers
-abbrev pub vertexWidth : ℕ
-vertexWidth = limits.vertexWidth
 
 -- the sixfold volume of a tetrahedron of the cut, its vertices taken from the vertex table
 unfoldable pub volumeIn : List ℤ → Tet Vertex → ℤ

@@ -14,7 +14,8 @@ ghost use Rattle.solids.specs.Cut.{cut, cutMesh};
 ghost use Rattle.solids.specs.Rows.{cutPlaces};
 ghost use Rattle.records.specs.Record.{elementOf, firstElements};
 ghost use Rattle.records.specs.Loops.{Whole, WholeTable};
-ghost use Rattle.mesh.specs.Cutting.{tetWidth, flat};
+ghost use Rattle.records.specs.Limits.{tetrahedronWidth};
+ghost use Rattle.mesh.specs.Cutting.{flat};
 ghost use Rattle.mesh.specs.BlockLoops.{tetOf, tetsIn, Stored, Counted};
 ghost use Rattle.mesh.specs.FitLoops.{Numbered};
 ghost use Rattle.mesh.specs.CutLoops.{storedUnder, withCount, PairsCut};
@@ -24,7 +25,7 @@ const TET: usize = 4;
 
 // A tetrahedron's four numbers, from an index on.
 fn put_tet(out: &mut [u16], at: usize, t: Tet)
-    requires { ⌜ at + tetWidth ≤ length (now out) ⌝ }
+    requires { ⌜ at + tetrahedronWidth ≤ length (now out) ⌝ }
     ensures { λ _. ⌜ now (out .exit) ≡ placed (now (out .entry)) at (flat (tetOf t ∷ [])) ⌝ }
 {
     out[at] = t.0.0;
@@ -36,7 +37,7 @@ fn put_tet(out: &mut [u16], at: usize, t: Tet)
 // The tetrahedra of the first n of six keys, from an index on.
 fn put_tets(out: &mut [u16], at: usize, keys: &[u64; 6], n: usize)
     requires { ⌜ n ≤ 6 ⌝ }
-    requires { ⌜ at + tetWidth * n ≤ length (now out) ⌝ }
+    requires { ⌜ at + tetrahedronWidth * n ≤ length (now out) ⌝ }
     requires { ⌜ n ≤ length (now keys) ⌝ }
     ensures { λ _. ⌜ now (out .exit) ≡ placed (now (out .entry)) at (flat (tetsIn (now (keys .entry)) n)) ⌝ }
 {
@@ -52,7 +53,7 @@ fn put_tets(out: &mut [u16], at: usize, keys: &[u64; 6], n: usize)
 fn put_element(numbers: &[u16], cuts: &[u8; 1536], out: &mut [u16], at: usize) -> usize
     requires { ⌜ Whole (now numbers) ⌝ }
     requires { ⌜ now cuts ≡ cutPlaces ⌝ }
-    requires { ⌜ at + tetWidth * length (cut (elementOf (now numbers))) ≤ length (now out) ⌝ }
+    requires { ⌜ at + tetrahedronWidth * length (cut (elementOf (now numbers))) ≤ length (now out) ⌝ }
     ensures { λ r. ⌜ Stored (cut (elementOf (now (numbers .entry)))) at (now (out .entry)) r (now (out .exit)) ⌝ }
 {
     let mut keys = [0u64; 6];
@@ -80,7 +81,7 @@ fn count_all(table: &[u16], n: usize) -> usize
 fn cut_each(table: &[u16], n: usize, cuts: &[u8; 1536], out: &mut [u16])
     requires { ⌜ WholeTable (now table) n ⌝ }
     requires { ⌜ now cuts ≡ cutPlaces ⌝ }
-    requires { ⌜ tetWidth * length (cutMesh (firstElements (now table) n)) ≤ length (now out) ⌝ }
+    requires { ⌜ tetrahedronWidth * length (cutMesh (firstElements (now table) n)) ≤ length (now out) ⌝ }
     ensures { λ _. ⌜ now (out .exit) ≡ laid (flat (cutMesh (firstElements (now (table .entry)) n))) (now (out .entry)) ⌝ }
 {
     let mut count = 0;
@@ -95,7 +96,7 @@ fn cut_each(table: &[u16], n: usize, cuts: &[u8; 1536], out: &mut [u16])
 // The cut of the first n elements, from the front on.
 fn cut_all(table: &[u16], n: usize, out: &mut [u16])
     requires { ⌜ WholeTable (now table) n ⌝ }
-    requires { ⌜ tetWidth * length (cutMesh (firstElements (now table) n)) ≤ length (now out) ⌝ }
+    requires { ⌜ tetrahedronWidth * length (cutMesh (firstElements (now table) n)) ≤ length (now out) ⌝ }
     ensures { λ _. ⌜ now (out .exit) ≡ laid (flat (cutMesh (firstElements (now (table .entry)) n))) (now (out .entry)) ⌝ }
 {
     let cuts = solids::cut_places();
@@ -105,7 +106,7 @@ fn cut_all(table: &[u16], n: usize, out: &mut [u16])
 // How many numbers the tetrahedra take.
 fn numbers_of(count: usize) -> usize
     requires { ⌜ count ≤ 6144 ⌝ }
-    ensures { λ r. ⌜ r ≡ tetWidth * count ⌝ }
+    ensures { λ r. ⌜ r ≡ tetrahedronWidth * count ⌝ }
 {
     TET * count
 }

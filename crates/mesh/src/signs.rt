@@ -19,7 +19,8 @@ ghost use Rattle.volume.specs.Volume.{pointAt};
 ghost use Rattle.solids.specs.Rows.{cutPlaces};
 ghost use Rattle.records.specs.Record.{usedOf, elementOf, firstElements};
 ghost use Rattle.records.specs.Loops.{Whole, WholeTable};
-ghost use Rattle.mesh.specs.Signs.{vertexWidth, volumeIn, signCounts, badPoint};
+ghost use Rattle.records.specs.Limits.{vertexWidth};
+ghost use Rattle.mesh.specs.Signs.{volumeIn, signCounts, badPoint};
 ghost use Rattle.mesh.specs.BlockLoops.{tetOf, tetsIn};
 ghost use Rattle.mesh.specs.SignLoops.{rangeAnswer, verticesAnswer, sited, sitedTet, SitedBlock, SitedTable, signOf, withSign, Few, Tallied, allPositive, ofCounts, FewSums, Summed};
 

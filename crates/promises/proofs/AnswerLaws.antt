@@ -17,10 +17,11 @@ use Rattle.faults.proofs.Theorems.{answer-tells-verdict}
 use Rattle.solids.specs.Solids.{Vertex, Tet, tet, Element, ofTet}
 use Rattle.solids.specs.Cut.{cutMesh}
 use Rattle.records.specs.Record.{firstElements}
+use Rattle.records.specs.Limits.{tetrahedronWidth}
 use Rattle.mesh.specs.declared.JudgeAnswer.the-variants as judge
 use Rattle.mesh.specs.declared.CutAnswer.the-variants as cut
 use Rattle.mesh.specs.Judge.{judged, JudgeDone}
-use Rattle.mesh.specs.Cutting.{tetWidth, flat, cutOf, CutDone}
+use Rattle.mesh.specs.Cutting.{flat, cutOf, CutDone}
 use Rattle.mesh.specs.Signs.{isAccepted}
 use Rattle.mesh.proofs.Theorems.{accepted-elements}
 use Rattle.promises.specs.Tables.{tetrahedraIn}
@@ -56,28 +57,28 @@ accepted-judge v n t es e = record { answer = ap (λ (x : Verdict (List Element)
 -- a cut that is accepted: the table is, and the cut of its elements has room
 pub record Cuts (v n : ℕ) (t : List ℕ) (room : ℕ) : Type 0 where
   pub elements : judged v n t ≡ accepted (firstElements t n)
-  pub fits : tetWidth * length (cutMesh (firstElements t n)) ≤ room
+  pub fits : tetrahedronWidth * length (cutMesh (firstElements t n)) ≤ room
 
 pub cut-accepted : (v n : ℕ) (t : List ℕ) (room : ℕ) → Cuts v n t room → cutOf v n t room ≡ accepted (cutMesh (firstElements t n))
 unfolding cutOf
-cut-accepted v n t room c = rw (c .elements, le-ltb room (tetWidth * length (cutMesh (firstElements t n))) (c .fits))
+cut-accepted v n t room c = rw (c .elements, le-ltb room (tetrahedronWidth * length (cutMesh (firstElements t n))) (c .fits))
 
 pub accepted-cut : (v n : ℕ) (t : List ℕ) (room : ℕ) (ts : List (Tet Vertex)) → cutOf v n t room ≡ accepted ts → Cuts v n t room
 unfolding cutOf
 accepted-cut v n t room ts e = go (judged v n t) refl e
   where
-    roomy : (es : List Element) (b : Bool) → ltb room (tetWidth * length (cutMesh es)) ≡ b → refuseIf b (refuse Room 0) (accepted (cutMesh es)) ≡ accepted ts
-        → tetWidth * length (cutMesh es) ≤ room
+    roomy : (es : List Element) (b : Bool) → ltb room (tetrahedronWidth * length (cutMesh es)) ≡ b → refuseIf b (refuse Room 0) (accepted (cutMesh es)) ≡ accepted ts
+        → tetrahedronWidth * length (cutMesh es) ≤ room
     roomy es true p q = absurd (never-both (sym q))
-    roomy es false p q = ltb-false room (tetWidth * length (cutMesh es)) p
+    roomy es false p q = ltb-false room (tetrahedronWidth * length (cutMesh es)) p
 
     go : (x : Verdict (List Element)) → judged v n t ≡ x
-        → andThen x (λ es. refuseIf (ltb room (tetWidth * length (cutMesh es))) (refuse Room 0) (accepted (cutMesh es))) ≡ accepted ts → Cuts v n t room
+        → andThen x (λ es. refuseIf (ltb room (tetrahedronWidth * length (cutMesh es))) (refuse Room 0) (accepted (cutMesh es))) ≡ accepted ts → Cuts v n t room
     go (refused r) p q = absurd (never-both (sym q))
     go (accepted es) p q =
         record {
           elements = accepted-first v n t es p;
-          fits = subst (λ (l : List Element). tetWidth * length (cutMesh l) ≤ room) (accepted-elements v n t es p) (roomy es (ltb room (tetWidth * length (cutMesh es))) refl q);
+          fits = subst (λ (l : List Element). tetrahedronWidth * length (cutMesh l) ≤ room) (accepted-elements v n t es p) (roomy es (ltb room (tetrahedronWidth * length (cutMesh es))) refl q);
         }
 
 -- a done answer: the count is that of the cut, and the output begins with the numbers of the cut

@@ -21,9 +21,10 @@ use Rattle.solids.proofs.Theorems.{plain, again-fitting, again-cut}
 use Rattle.records.specs.Record.{width, asRecord, elementOf, recordFinding, recordAt, elementAt, firstElements}
 use Rattle.records.specs.Loops.{isNumber}
 use Rattle.records.proofs.Theorems.{clean-faultless, faultless-clean, first-are, first-all, gathered-length, gathered-at}
-use Rattle.mesh.specs.Judge.{mostElements, judged}
+use Rattle.records.specs.Limits.{elementLimit, tetrahedronWidth}
+use Rattle.mesh.specs.Judge.{judged}
 use Rattle.mesh.specs.Acceptance.{Acceptable}
-use Rattle.mesh.specs.Cutting.{tetWidth, flat, cutOf}
+use Rattle.mesh.specs.Cutting.{flat, cutOf}
 use Rattle.mesh.proofs.Theorems.{accepted-elements, accepted-proper, accepted-fitting, accepted-acceptable, acceptable-accepted}
 use Rattle.promises.specs.Tables.{asTable, BeginsWith, tetrahedraIn}
 use Rattle.records.proofs.TetrahedronRecord.{record-wide, record-element, isGood, record-faultless}
@@ -98,7 +99,7 @@ module _ (v n : ℕ) (t : List ℕ) (es : List Element) (e : judged v n t ≡ ac
       mesh-good v es (accepted-proper v n t es e)
       (subst (λ (l : List Element). T (every (inLimit v) l)) (sym (accepted-elements v n t es e)) (acceptable-inside v n t (accepted-acceptable v n t es e)))
 
-  module _ (few : length (cutMesh es) ≤ mostElements) (t′ : List ℕ) (w : BeginsWith (cutMesh es) t′) where
+  module _ (few : length (cutMesh es) ≤ elementLimit) (t′ : List ℕ) (w : BeginsWith (cutMesh es) t′) where
     again-acceptable : Acceptable v (length (cutMesh es)) t′
     again-acceptable = record {
       vertices = accepted-acceptable v n t es e .vertices;
@@ -120,7 +121,7 @@ module _ (v n : ℕ) (t : List ℕ) (es : List Element) (e : judged v n t ≡ ac
     again-alike room = rw (again-accepted, e, again-cut es (accepted-proper v n t es e))
 
 -- the same of a cut that is done: the tetrahedra in its output, cut again into the same memory
-module _ (v n : ℕ) (t old : List ℕ) (many : ℕ) (new : List ℕ) (d : DoneCut v n t old many new) (few : many ≤ mostElements) where
+module _ (v n : ℕ) (t old : List ℕ) (many : ℕ) (new : List ℕ) (d : DoneCut v n t old many new) (few : many ≤ elementLimit) where
   abbrev es : List Element
   es = firstElements t n
 
@@ -130,7 +131,7 @@ module _ (v n : ℕ) (t old : List ℕ) (many : ℕ) (new : List ℕ) (d : DoneC
   e : judged v n t ≡ accepted es
   e = d .cuts .elements
 
-  few-of-cut : length ts ≤ mostElements
+  few-of-cut : length ts ≤ elementLimit
   few-of-cut = let m = d .many in omega arith
 
   module _ (t′ : List ℕ) where
@@ -142,7 +143,7 @@ module _ (v n : ℕ) (t old : List ℕ) (many : ℕ) (new : List ℕ) (d : DoneC
         record {
           cuts = record {
             elements = accepted-first v (length ts) t′ (map asElement ts) (again-accepted v n t es e few-of-cut t′ w);
-            fits = subst (λ (us : List (Tet Vertex)). tetWidth * length us ≤ length old) (sym (again-same w)) (d .cuts .fits);
+            fits = subst (λ (us : List (Tet Vertex)). tetrahedronWidth * length us ≤ length old) (sym (again-same w)) (d .cuts .fits);
           };
           many = ap length (sym (again-same w));
           output = d .output ∙ ap (λ (us : List (Tet Vertex)). laid (flat us) old) (sym (again-same w));

@@ -15,10 +15,11 @@ use Rattle.faults.proofs.Theorems.{answer-tells-verdict}
 use Rattle.solids.specs.Solids.{Element}
 use Rattle.solids.specs.Cut.{cutMesh}
 use Rattle.records.specs.Record.{firstElements}
+use Rattle.records.specs.Limits.{vertexWidth}
 use Rattle.mesh.specs.declared.SignCounts.{SignCounts}
 use Rattle.mesh.specs.declared.SignAnswer.the-variants as sign
 use Rattle.mesh.specs.Judge.{judged}
-use Rattle.mesh.specs.Signs.{vertexWidth, signCounts, badPoint, signsOf, SignDone}
+use Rattle.mesh.specs.Signs.{signCounts, badPoint, signsOf, SignDone}
 use Rattle.mesh.specs.SignLoops.{ofCounts}
 use Rattle.mesh.proofs.Theorems.{accepted-elements}
 use Rattle.mesh.proofs.SignLaws.{counts-add, from-list}

@@ -29,12 +29,13 @@ use Rattle.solids.proofs.SideLaws.{bool-iff}
 use Rattle.solids.proofs.RelistingLaws.{alike-there, alike-home}
 use Rattle.solids.proofs.Theorems.{proper-relisted, relisting-fitting, relisting-cut}
 use Rattle.records.specs.Record.{width, usedOf, elementOf, recordFinding, recordAt, elementAt, firstElements}
-use Rattle.mesh.specs.Judge.{mostVertices, mostElements, isFault, faultIn, badRecord, pairFits, misfit, badElement, judged, JudgeDone}
+use Rattle.records.specs.Limits.{elementLimit, tetrahedronWidth, vertexLimit, vertexWidth}
+use Rattle.mesh.specs.Judge.{isFault, faultIn, badRecord, pairFits, misfit, badElement, judged, JudgeDone}
 use Rattle.mesh.specs.declared.JudgeAnswer.{JudgeAnswer}
 use Rattle.mesh.specs.declared.CutAnswer.{CutAnswer}
 use Rattle.mesh.specs.declared.SignAnswer.{SignAnswer}
-use Rattle.mesh.specs.Cutting.{tetWidth, flat, cutOf, CutDone}
-use Rattle.mesh.specs.Signs.{vertexWidth, isPositive, sound, signCounts, badPoint, signsOf, SignDone, isAccepted}
+use Rattle.mesh.specs.Cutting.{flat, cutOf, CutDone}
+use Rattle.mesh.specs.Signs.{isPositive, sound, signCounts, badPoint, signsOf, SignDone, isAccepted}
 use Rattle.mesh.proofs.JudgeLaws.{record-clean}
 use Rattle.mesh.proofs.AcceptanceLaws.{clean-proper}
 use Rattle.records.proofs.Theorems.{first-each}
@@ -174,9 +175,9 @@ module _ (v n : ℕ) where
   lengthOf t = refuseIf (ltb (length t) (width * n)) (refuse Room 0) (faultsOf t)
 
   abbrev manyOf : List ℕ → Verdict (List Element)
-  manyOf t = refuseIf (ltb mostElements n) (refuse Many 0) (lengthOf t)
+  manyOf t = refuseIf (ltb elementLimit n) (refuse Many 0) (lengthOf t)
 
-  whole-verdict : (t : List ℕ) → judged v n t ≡ refuseIf (ltb mostVertices v) (refuse Many 0) (manyOf t)
+  whole-verdict : (t : List ℕ) → judged v n t ≡ refuseIf (ltb vertexLimit v) (refuse Many 0) (manyOf t)
   unfolding judged
   whole-verdict t = refl
 
@@ -239,8 +240,8 @@ module _ (v n : ℕ) where
         → andThen (judged v n t′) f ≡ andThen (judged v n t) f
     relisted-then {B} f same =
         ap (λ (x : Verdict (List Element)). andThen x f) (whole-verdict t′)
-        ∙ alike f (ltb mostVertices v) (ltb mostVertices v) (refuse Many 0) (refuse Many 0) (manyOf t) (manyOf t′) refl (λ b. refl) (λ a.
-        alike f (ltb mostElements n) (ltb mostElements n) (refuse Many 0) (refuse Many 0) (lengthOf t) (lengthOf t′) refl (λ b. refl) (λ b.
+        ∙ alike f (ltb vertexLimit v) (ltb vertexLimit v) (refuse Many 0) (refuse Many 0) (manyOf t) (manyOf t′) refl (λ b. refl) (λ a.
+        alike f (ltb elementLimit n) (ltb elementLimit n) (refuse Many 0) (refuse Many 0) (lengthOf t) (lengthOf t′) refl (λ b. refl) (λ b.
         alike f (ltb (length t) (width * n)) (ltb (length t′) (width * n)) (refuse Room 0) (refuse Room 0) (faultsOf t) (faultsOf t′)
         (ap (λ (m : ℕ). ltb m (width * n)) (w .long)) (λ b. refl) (λ c.
         alike f (ltb 0 (badRecord v t n)) (ltb 0 (badRecord v t′ n))
@@ -249,11 +250,11 @@ module _ (v n : ℕ) where
         (ap (ltb 0) bad-record-alike) (λ d. record-refusal (ltb-true 0 (badRecord v t n) d)) (λ d. pairs (all b c d)))))
         ∙ ap (λ (x : Verdict (List Element)). andThen x f) (sym (whole-verdict t))
       where
-        all : ltb mostElements n ≡ false → ltb (length t) (width * n) ≡ false → ltb 0 (badRecord v t n) ≡ false → T (every proper (firstElements t n))
+        all : ltb elementLimit n ≡ false → ltb (length t) (width * n) ≡ false → ltb 0 (badRecord v t n) ≡ false → T (every proper (firstElements t n))
         all b c d =
             let k = ltb-false 0 (badRecord v t n) d in
             let z : badRecord v t n ≡ 0 = omega arith in
-            clean-proper v n t (ltb-false mostElements n b) (ltb-false (length t) (width * n) c) (record-clean v t n z)
+            clean-proper v n t (ltb-false elementLimit n b) (ltb-false (length t) (width * n) c) (record-clean v t n z)
 
         pairs : T (every proper (firstElements t n)) → andThen (pairsOf t′) f ≡ andThen (pairsOf t) f
         pairs p =
@@ -266,8 +267,8 @@ module _ (v n : ℕ) where
     pub relisted-cut : (room : ℕ) → cutOf v n t′ room ≡ cutOf v n t room
     unfolding cutOf
     relisted-cut room =
-        relisted-then (λ es. refuseIf (ltb room (tetWidth * length (cutMesh es))) (refuse Room 0) (accepted (cutMesh es)))
-        (λ p l. ap (λ (ts : List _). refuseIf (ltb room (tetWidth * length ts)) (refuse Room 0) (accepted ts)) (relisting-cut l p))
+        relisted-then (λ es. refuseIf (ltb room (tetrahedronWidth * length (cutMesh es))) (refuse Room 0) (accepted (cutMesh es)))
+        (λ p l. ap (λ (ts : List _). refuseIf (ltb room (tetrahedronWidth * length ts)) (refuse Room 0) (accepted ts)) (relisting-cut l p))
 
     -- the same signs
     pub relisted-signs : (table : List ℤ) → signsOf v n t′ table ≡ signsOf v n t table

@@ -25,9 +25,10 @@ use Rattle.solids.proofs.SideLaws.{bool-iff}
 use Rattle.solids.proofs.Theorems.{order-names, reordered-fitting, reordered-many, reordered-cut}
 use Rattle.records.specs.Record.{width, elementOf, recordFinding, recordAt, elementAt, firstElements}
 use Rattle.records.proofs.Theorems.{record-length, first-length, first-at, first-are, gathered-length, gathered-at}
+use Rattle.records.specs.Limits.{tetrahedronWidth}
 use Rattle.mesh.specs.Judge.{judged}
 use Rattle.mesh.specs.Acceptance.{Acceptable}
-use Rattle.mesh.specs.Cutting.{tetWidth, flat, cutOf}
+use Rattle.mesh.specs.Cutting.{flat, cutOf}
 use Rattle.mesh.specs.Signs.{isAccepted}
 use Rattle.mesh.proofs.AcceptanceLaws.{clean-proper, acceptable-proper}
 use Rattle.mesh.proofs.Theorems.{accepted-elements, accepted-acceptable, acceptable-accepted}
@@ -137,7 +138,7 @@ module _ (n : ℕ) (σ t t′ : List ℕ) (w : TableReordered n σ t t′) where
       → cutOf v n t′ room ≡ (andThen (cutOf v n t room) λ ts. accepted (blocksInOrder σ es))
   unfolding cutOf
   reordered-blocks v es e room =
-      rw (reordered-there v es e, e, many-reordered, cut-reordered, ← accepted-elements v n t es e) (go (ltb room (tetWidth * length (cutMesh es))))
+      rw (reordered-there v es e, e, many-reordered, cut-reordered, ← accepted-elements v n t es e) (go (ltb room (tetrahedronWidth * length (cutMesh es))))
     where
       go : (b : Bool) → refuseIf b (refuse Room 0) (accepted (blocksInOrder σ es))
           ≡ (andThen (refuseIf b (refuse Room 0) (accepted (cutMesh es))) λ ts. accepted (blocksInOrder σ es))
@@ -151,7 +152,7 @@ module _ (n : ℕ) (σ t t′ : List ℕ) (w : TableReordered n σ t t′) where
         record {
           cuts = record {
             elements = reordered-there v (firstElements t n) (d .cuts .elements);
-            fits = subst (λ (k : ℕ). tetWidth * k ≤ length old) (sym many-reordered) (d .cuts .fits);
+            fits = subst (λ (k : ℕ). tetrahedronWidth * k ≤ length old) (sym many-reordered) (d .cuts .fits);
           };
           many = d .many ∙ sym many-reordered;
           output = ap (λ (ts : List (Tet Vertex)). laid (flat ts) old) (sym cut-reordered);
@@ -162,7 +163,7 @@ module _ (n : ℕ) (σ t t′ : List ℕ) (w : TableReordered n σ t t′) where
         record {
           cuts = record {
             elements = reordered-home v (firstElements t′ n) (d .cuts .elements);
-            fits = subst (λ (k : ℕ). tetWidth * k ≤ length old) many-reordered (d .cuts .fits);
+            fits = subst (λ (k : ℕ). tetrahedronWidth * k ≤ length old) many-reordered (d .cuts .fits);
           };
           many = d .many ∙ many-reordered;
           output = refl;

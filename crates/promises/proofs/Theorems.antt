@@ -25,6 +25,7 @@ use Rattle.solids.proofs.Theorems.{again-cut}
 use Rattle.records.specs.Record.{width, kindOf, usedOf, solidOf, elementOf, recordFinding, recordAt, elementAt, firstElements}
 use Rattle.records.specs.Loops.{isNumber, Whole, WholeTable}
 use Rattle.records.proofs.Theorems.{whole-proper}
+use Rattle.records.specs.Limits.{elementLimit}
 use Rattle.mesh.specs.declared.JudgeAnswer.{JudgeAnswer}
 use Rattle.mesh.specs.declared.JudgeAnswer.the-variants as judge
 use Rattle.mesh.specs.declared.CutCounts.{CutCounts}
@@ -33,7 +34,7 @@ use Rattle.mesh.specs.declared.CutAnswer.the-variants as answer
 use Rattle.mesh.specs.declared.SignCounts.{SignCounts}
 use Rattle.mesh.specs.declared.SignAnswer.{SignAnswer}
 use Rattle.mesh.specs.declared.SignAnswer.the-variants as sign
-use Rattle.mesh.specs.Judge.{mostElements, judged, JudgeDone}
+use Rattle.mesh.specs.Judge.{judged, JudgeDone}
 use Rattle.mesh.specs.Cutting.{flat, cutOf, CutDone}
 use Rattle.mesh.specs.Signs.{SignDone, isAccepted}
 use Rattle.mesh.proofs.Theorems.{judge-unique, cut-unique, sign-unique, accepted-proper, accepted-surface}
@@ -172,7 +173,7 @@ pub memory-begins : (ts : List (Tet Vertex)) (rest : List ℕ) → BeginsWith ts
 memory-begins = CutOfCutTables.table-begins
 
 -- an accepted table of at most 1,024 tetrahedra: these, given as TE records, are accepted with the same vertex count
-pub again-accepted : (v n : ℕ) (t : List ℕ) (es : List Element) → judged v n t ≡ accepted es → length (cutMesh es) ≤ mostElements
+pub again-accepted : (v n : ℕ) (t : List ℕ) (es : List Element) → judged v n t ≡ accepted es → length (cutMesh es) ≤ elementLimit
     → (t′ : List ℕ) → BeginsWith (cutMesh es) t′ → judged v (length (cutMesh es)) t′ ≡ accepted (map asElement (cutMesh es))
 again-accepted = CutOfCutTables.again-accepted
 
@@ -181,13 +182,13 @@ pub again-itself : (v n : ℕ) (t : List ℕ) (es : List Element) → judged v n
 again-itself v n t es e = again-cut es (accepted-proper v n t es e)
 
 -- with whatever room: the same tetrahedra, or the same refusal
-pub again-cut-alike : (v n : ℕ) (t : List ℕ) (es : List Element) → judged v n t ≡ accepted es → length (cutMesh es) ≤ mostElements
+pub again-cut-alike : (v n : ℕ) (t : List ℕ) (es : List Element) → judged v n t ≡ accepted es → length (cutMesh es) ≤ elementLimit
     → (t′ : List ℕ) → BeginsWith (cutMesh es) t′ → (room : ℕ) → cutOf v (length (cutMesh es)) t′ room ≡ cutOf v n t room
 again-cut-alike = CutOfCutTables.again-alike
 
 -- of the functions: the tetrahedra that `cut_mesh` left in memory, given to it again as TE records with the same memory as before, give the same
 -- answer and the same memory, and `judge_mesh` is done with them
-pub again-cut-mesh : (v n : ℕ) (t old : List ℕ) (c : CutCounts) (new : List ℕ) → CutDone v n t old (answer.Done c) new → c .tetrahedra ≤ mostElements
+pub again-cut-mesh : (v n : ℕ) (t old : List ℕ) (c : CutCounts) (new : List ℕ) → CutDone v n t old (answer.Done c) new → c .tetrahedra ≤ elementLimit
     → (t′ : List ℕ) → BeginsWith (tetrahedraIn (c .tetrahedra) new) t′ → (s : CutAnswer) (new′ : List ℕ) → CutDone v (c .tetrahedra) t′ old s new′
     → (s ≡ answer.Done c) × (new′ ≡ new)
 again-cut-mesh v n t old c new d few t′ w s new′ q =
@@ -195,7 +196,7 @@ again-cut-mesh v n t old c new d few t′ w s new′ q =
     cut-unique v k t′ old s (answer.Done c) new′ new q
     (AnswerLaws.done-answer v k t′ old k new (CutOfCutTables.again-done v n t old k new (AnswerLaws.answer-done v n t old k new d) few t′ w))
 
-pub again-judge-mesh : (v n : ℕ) (t old : List ℕ) (c : CutCounts) (new : List ℕ) → CutDone v n t old (answer.Done c) new → c .tetrahedra ≤ mostElements
+pub again-judge-mesh : (v n : ℕ) (t old : List ℕ) (c : CutCounts) (new : List ℕ) → CutDone v n t old (answer.Done c) new → c .tetrahedra ≤ elementLimit
     → (t′ : List ℕ) → BeginsWith (tetrahedraIn (c .tetrahedra) new) t′ → (s : JudgeAnswer) → JudgeDone v (c .tetrahedra) t′ s → s ≡ judge.Done
 again-judge-mesh v n t old c new d few t′ w s q =
     let k = c .tetrahedra in

@@ -11,8 +11,8 @@ use Rattle.solids.specs.Cut.{cutFace, cut}
 use Rattle.solids.specs.Fit.{outerFaces}
 use Rattle.solids.specs.Surface.{back, times, owners}
 use Rattle.solids.specs.Listings.{Relists, isOrder, picked}
+use Rattle.records.specs.Limits.{tetrahedronWidth}
 use Rattle.records.specs.Record.{width, kindOf, usedOf, spareOf, recordOf, asRecord, elementOf, recordAt}
-use Rattle.mesh.specs.Cutting.{tetWidth}
 
 -- ---- relisting
 
@@ -71,7 +71,7 @@ pub record BeginsWith (ts : List (Tet Vertex)) (t : List ℕ) : Type 0 where
 -- the first k tetrahedra that stand in a memory, four vertex numbers each
 unfoldable pub tetrahedraIn : ℕ → List ℕ → List (Tet Vertex)
 tetrahedraIn zero l = []
-tetrahedraIn (suc k) l = tet (getD l 0 0) (getD l 1 0) (getD l 2 0) (getD l 3 0) ∷ tetrahedraIn k (drop tetWidth l)
+tetrahedraIn (suc k) l = tet (getD l 0 0) (getD l 1 0) (getD l 2 0) (getD l 3 0) ∷ tetrahedraIn k (drop tetrahedronWidth l)
 
 -- ---- the surface
 

@@ -11,7 +11,8 @@ use Rattle.laws.proofs.LentLaws.{placed-none, placed-laid}
 use Rattle.solids.specs.Cut.{cut}
 use Rattle.records.specs.Record.{elementOf, recordAt}
 use Rattle.records.specs.Loops.{Whole, WholeTable}
-use Rattle.mesh.specs.Cutting.{tetWidth, flat}
+use Rattle.records.specs.Limits.{tetrahedronWidth}
+use Rattle.mesh.specs.Cutting.{flat}
 use Rattle.mesh.specs.BlockLoops.{Stored}
 use Rattle.mesh.proofs.RecordCutLaws.{cut-few}
 use Rattle.mesh.proofs.MeshCutLaws.{cutTo, cutAt, cut-none, count-next, count-most, placed-element}
@@ -20,7 +21,7 @@ use Rattle.mesh.proofs.cutting.cut_each.Tie as tie
 
 record Kept (t : List ℕ) (n : ℕ) (l₀ l : List ℕ) (count k : ℕ) : Type 0 where
   table : WholeTable t n
-  room : tetWidth * length (cutTo t n) ≤ length l₀
+  room : tetrahedronWidth * length (cutTo t n) ≤ length l₀
   up : k ≤ n
   few : count ≤ 6 * k
   same : count ≡ length (cutTo t k)
@@ -29,15 +30,15 @@ record Kept (t : List ℕ) (n : ℕ) (l₀ l : List ℕ) (count k : ℕ) : Type 
 
 module _ {t : List ℕ} {n : ℕ} {l₀ l : List ℕ} {count k : ℕ} (h : Kept t n l₀ l count k) (q : k < n) where
   -- room for the next element's tetrahedra
-  enough : tetWidth * count + tetWidth * length (cutAt t k) ≤ length l
+  enough : tetrahedronWidth * count + tetrahedronWidth * length (cutAt t k) ≤ length l
   enough =
       let g : length (cutTo t (k + 1)) ≤ length (cutTo t n) = count-most t (omega arith) in
       omega (arith, h .room, h .same, h .size, count-next t k)
 
-  step : {r : List ℕ} {m : ℕ} {l′ : List ℕ} → r ≡ recordAt t k → Stored (cut (elementOf r)) (tetWidth * count) l m l′ → length l′ ≡ length l → Kept t n l₀ l′ (count + m) (k + 1)
+  step : {r : List ℕ} {m : ℕ} {l′ : List ℕ} → r ≡ recordAt t k → Stored (cut (elementOf r)) (tetrahedronWidth * count) l m l′ → length l′ ≡ length l → Kept t n l₀ l′ (count + m) (k + 1)
   step {r} {m} {l′} e s z =
       let c : m ≡ length (cutAt t k) = s .count ∙ ap (λ x. length (cut (elementOf x))) e in
-      let o : l′ ≡ placed l (tetWidth * count) (flat (cutAt t k)) = s .output ∙ ap (λ x. placed l (tetWidth * count) (flat (cut (elementOf x)))) e in
+      let o : l′ ≡ placed l (tetrahedronWidth * count) (flat (cutAt t k)) = s .output ∙ ap (λ x. placed l (tetrahedronWidth * count) (flat (cut (elementOf x)))) e in
       record {
         table = h .table;
         room = h .room;
@@ -46,7 +47,7 @@ module _ {t : List ℕ} {n : ℕ} {l₀ l : List ℕ} {count k : ℕ} (h : Kept 
         same = omega (arith, h .same, count-next t k);
         size = z ∙ h .size;
         output =
-            o ∙ ap (λ (x : List ℕ). placed x (tetWidth * count) (flat (cutAt t k))) (h .output)
+            o ∙ ap (λ (x : List ℕ). placed x (tetrahedronWidth * count) (flat (cutAt t k))) (h .output)
             ∙ placed-element t l₀ k (h .same) (omega (arith, enough, h .same, h .size));
       }
 
@@ -84,7 +85,7 @@ put-element-requires c κs =
       subst Whole e (c .before .before .before .before .before .before .pre .0 .whole (l .k) t),
       (
         c .before .before .before .before .before .before .pre .1 .0,
-        subst (λ x. tetWidth * l .count + tetWidth * length (cut (elementOf x)) ≤ length (l .out)) e (enough (l .inv) t),
+        subst (λ x. tetrahedronWidth * l .count + tetrahedronWidth * length (cut (elementOf x)) ≤ length (l .out)) e (enough (l .inv) t),
       ),
     )
 

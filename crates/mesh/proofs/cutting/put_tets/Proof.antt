@@ -9,7 +9,8 @@ use borrow.Author.Needs.{needs}
 use lib.ListN.{length, take, getD}
 use Rattle.laws.specs.Lent.{placed}
 use Rattle.laws.proofs.LentLaws.{placed-none}
-use Rattle.mesh.specs.Cutting.{tetWidth, flat}
+use Rattle.records.specs.Limits.{tetrahedronWidth}
+use Rattle.mesh.specs.Cutting.{flat}
 use Rattle.mesh.specs.BlockLoops.{keyed, tetsIn}
 use Rattle.mesh.proofs.StoreLaws.{placed-next}
 use Rattle.mesh.proofs.cutting.put_tets.Statement.{statement}
@@ -17,14 +18,14 @@ use Rattle.mesh.proofs.cutting.put_tets.Tie as tie
 
 record Kept (l₀ : List ℕ) (at n : ℕ) (b : List ℕ) (l : List ℕ) (k : ℕ) : Type 0 where
   few : n ≤ 6
-  room : at + tetWidth * n ≤ length l₀
+  room : at + tetrahedronWidth * n ≤ length l₀
   up : k ≤ n
   long : n ≤ length b
   size : length l ≡ length l₀
   same : l ≡ placed l₀ at (flat (map keyed (take k b)))
 
 step : {l₀ : List ℕ} {at n : ℕ} {b : List ℕ} {l : List ℕ} {k : ℕ} → Kept l₀ at n b l k → k < n → (d : ℕ) {l′ : List ℕ}
-    → l′ ≡ placed l (at + tetWidth * k) (flat (keyed (getD b k d) ∷ [])) → length l′ ≡ length l → Kept l₀ at n b l′ (k + 1)
+    → l′ ≡ placed l (at + tetrahedronWidth * k) (flat (keyed (getD b k d) ∷ [])) → length l′ ≡ length l → Kept l₀ at n b l′ (k + 1)
 step {l₀} {at} {n} {b} {k} h t d e s = record {
   few = h .few;
   room = h .room;
@@ -33,7 +34,7 @@ step {l₀} {at} {n} {b} {k} h t d e s = record {
   size = s ∙ h .size;
   same =
       rw (add-one k)
-      (e ∙ ap (λ (x : List ℕ). placed x (at + tetWidth * k) (flat (keyed (getD b k d) ∷ []))) (h .same)
+      (e ∙ ap (λ (x : List ℕ). placed x (at + tetrahedronWidth * k) (flat (keyed (getD b k d) ∷ []))) (h .same)
       ∙ placed-next l₀ at b k d (omega (arith, h .long, h .few)) (omega (arith, h .room)));
 }
 
@@ -86,7 +87,7 @@ loop-again c =
     let l = c .before .before .before .before .before .before .before .loop in
     let a = c .before .before .before .before .before .before .before .before .before .args in
     step (l .inv) (c .before .before .before .before .before .before .loop-test .taken) 0
-    (s .ensures ∙ ap (λ t. placed (l .out) (a .at + tetWidth * l .k) (flat (t ∷ []))) (c .before .before .before .tet-of .ensures)) (s .kept .0)
+    (s .ensures ∙ ap (λ t. placed (l .out) (a .at + tetrahedronWidth * l .k) (flat (t ∷ []))) (c .before .before .before .tet-of .ensures)) (s .kept .0)
 
 same-length : tie.Need-same-length Inv-loop μ-loop
 same-length c = c .before .loop .inv .size
