@@ -24,7 +24,7 @@ use Rattle.solids.proofs.Theorems.{plain}
 use Rattle.records.specs.Limits.{vertexLimit, tetrahedronLimit, tetrahedronWidth}
 use Rattle.records.specs.Record.{asRecord, usedOf, elementOf, recordFinding, recordAt, elementAt, firstElements}
 use Rattle.records.specs.Loops.{isNumber}
-use Rattle.records.proofs.Theorems.{faultless-clean}
+use Rattle.records.proofs.Theorems.{faultless-clean, first-all}
 use Rattle.mesh.specs.declared.CutAnswer.{CutAnswer}
 use Rattle.mesh.specs.declared.CutAnswer.the-variants.{Done, Refused}
 use Rattle.mesh.specs.declared.CutCounts.{CutCounts}
@@ -75,11 +75,8 @@ module _ (v limit : ℕ) (below : v ≤ limit) where
 
   first-inside : (t : List ℕ) (n : ℕ) → ((k : ℕ) → k < n → T (every (isNumber v) (usedOf (recordAt t k))))
       → T (every (λ e. every (isNumber v) (cornersOf e)) (firstElements t n))
-  unfolding firstElements elementAt elementOf
-  first-inside t zero h = tt
-  first-inside t (suc n) h =
-      every-append (λ e. every (isNumber v) (cornersOf e)) (firstElements t n) (elementAt t n ∷ []) (first-inside t n (λ k l. h k (omega arith)))
-      (and-both (every (isNumber v) (usedOf (recordAt t n))) true (h n (omega arith)) tt)
+  unfolding elementAt elementOf
+  first-inside t n h = first-all t (λ e. every (isNumber v) (cornersOf e)) n h
 
 -- ---- an accepted cut
 
