@@ -1,4 +1,4 @@
--- Shapes that only the functions of the private modules blocks and cutting want; proofs/FaceLaws.antt, FanLaws.antt, ChoiceLaws.antt,
+-- Shapes that only the functions of the private modules blocks and cutting want; proofs/KeyLaws.antt, FaceLaws.antt, FanLaws.antt, ChoiceLaws.antt,
 -- RowTetLaws.antt and BlockLaws.antt say that they are what the page's definitions give.
 use mathlib.Core.Path.{_≡_}
 use mathlib.Core.Bool.{cond, not}

@@ -10,7 +10,7 @@ ghost use lib.ListN.{length};
 ghost use Rattle.laws.specs.Words.{among, lowest};
 ghost use Rattle.solids.specs.declared.Solid.the-variants.{Hexahedron};
 ghost use Rattle.solids.specs.Solids.{four, element, ofTet, onTet, at, opposite, holds, facesOf};
-ghost use Rattle.solids.specs.Cut.{lowestFirst, halves, follow, first, onDiagonal, bitsOf, fan, secondLowest, written, upTo, insert, inOrder, cut};
+ghost use Rattle.solids.specs.Cut.{lowestFirst, halves, follow, first, onDiagonal, bitsOf, fan, secondLowest, written, upTo, inOrder, cut};
 ghost use Rattle.solids.specs.Rows.{cutPlaces, rowPlace, binary, rowOf, cutByRow};
 ghost use Rattle.records.specs.Record.{kindOf, usedOf, elementOf};
 ghost use Rattle.records.specs.Loops.{Whole};

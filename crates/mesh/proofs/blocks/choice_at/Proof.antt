@@ -1,6 +1,6 @@
 -- The faces that do not hold the lowest corner, and the corner opposite to it.
 -- Assumes nothing.
-use mathlib.Core.Path.{_≡_, ap, _∙_}
+use mathlib.Core.Path.{ap, _∙_}
 use native.Mathlib.Omega.{arith}
 use denote.Ref.{now}
 use Rattle.solids.specs.Solids.{at, opposite}

@@ -1,6 +1,5 @@
 -- The four vertices, place by place.
 -- Assumes nothing.
-use mathlib.Core.Path.{_≡_}
 use Rattle.solids.specs.Solids.{four}
 use borrow.Author.Needs.{needs}
 use Rattle.mesh.proofs.blocks.four_at.Statement.{statement}

@@ -5,7 +5,6 @@ use mathlib.Core.List.{List, _++_}
 use Prim.Native.Nat.{ℕ, suc, _+_, _-_, _≤_, _<_}
 use native.Mathlib.Omega.{arith}
 use denote.Ref.{now}
-use borrow.Author.Needs.{needs}
 use Rattle.solids.specs.Cut.{inOrder}
 use Rattle.solids.specs.Rows.{rowOf, cutByRow}
 use Rattle.records.specs.Record.{usedOf}

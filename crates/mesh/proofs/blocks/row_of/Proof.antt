@@ -1,6 +1,5 @@
 -- The place of the lowest corner and the choice of its far diagonals make the row's number.
 -- Assumes nothing.
-use mathlib.Core.Path.{_≡_}
 use Prim.Native.Nat.{_+_, _*_, _-_}
 use native.Mathlib.Omega.{arith}
 use denote.Ref.{now}
