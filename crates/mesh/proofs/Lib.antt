@@ -15,6 +15,7 @@ pub mod FanLaws
 pub mod RowTetLaws
 pub mod RowBounds
 pub mod RecordCutLaws
+pub mod CornerLaws
 pub mod StoreLaws
 pub mod MeshCutLaws
 pub mod AcceptedLaws

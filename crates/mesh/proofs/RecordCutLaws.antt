@@ -35,7 +35,7 @@ kind-least k h = go (which-kind k h)
     go (is-6 e) = omega arith
     go (is-8 e) = omega arith
 
-from-inside : (n p : ℕ) → T (inside n p) → (1 ≤ p) × (p ≤ n)
+pub from-inside : (n p : ℕ) → T (inside n p) → (1 ≤ p) × (p ≤ n)
 from-inside n zero h = absurd h
 from-inside n (suc i) h = let l = ltb→lt i n h in (omega arith, omega arith)
 

@@ -1,11 +1,11 @@
--- Shapes that only the functions of the private modules blocks and cutting want; proofs/FaceLaws.antt, FanLaws.antt, ChoiceLaws.antt,
+-- Shapes that only the functions of the private modules blocks and cutting want; proofs/KeyLaws.antt, FaceLaws.antt, FanLaws.antt, ChoiceLaws.antt,
 -- RowTetLaws.antt and BlockLaws.antt say that they are what the page's definitions give.
 use mathlib.Core.Path.{_≡_}
 use mathlib.Core.Bool.{cond, not}
 use mathlib.Core.List.{List, [], _∷_, map}
 use Prim.Native.Nat.{ℕ, _+_, _*_, _/_, _%_, _≤_}
 use lib.Dec.{eqb}
-use lib.ListN.{length, getD, take}
+use lib.ListN.{length, getD, take, drop}
 use Rattle.laws.specs.Words.{keep}
 use Rattle.laws.specs.Lent.{placed}
 use Rattle.solids.specs.declared.Solid.{Solid}
@@ -73,6 +73,10 @@ unfoldable pub faceTets : Vertex → Face Vertex → List (Tet Vertex)
 faceTets v f = cond (holds v f) [] (map (follow v) (cutFace f))
 
 -- ---- the row of a hexahedron
+
+-- the corners of an array of nine, whose first number is 0 so that a place is an index
+abbrev pub cornersIn : List ℕ → List Vertex
+cornersIn l = drop 1 l
 
 -- of the faces that do not hold the lowest corner: the choice of their diagonals, those through the opposite corner, as a number
 unfoldable pub choice : (low high : Vertex) → List (Face Vertex) → ℕ

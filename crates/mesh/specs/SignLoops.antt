@@ -1,7 +1,7 @@
 -- Shapes that only the functions of the private module signs want; proofs/SiteLaws.antt says that an accepted table's vertices are sited, and
 -- proofs/SignLaws.antt what the counts have to do with the page's definitions.
 use mathlib.Core.Path.{_≡_}
-use mathlib.Core.Bool.{Bool, true, false, cond, _&&_}
+use mathlib.Core.Bool.{Bool, cond, _&&_}
 use mathlib.Core.List.{List, [], _∷_}
 use Prim.Native.Nat.{ℕ, zero, suc, _+_, _*_, _≤_, _<_}
 use lib.Dec.{T, eqb, ltb, leb}

@@ -6,15 +6,15 @@ ghost use mathlib.Core.Path.{_≡_};
 ghost use mathlib.Core.Bool.{_||_};
 ghost use mathlib.Core.List.{[], _∷_, map};
 ghost use Prim.Native.Nat.{min, _+_, _*_, _≤_, _<_};
-ghost use lib.ListN.{length};
+ghost use lib.ListN.{length, getD};
 ghost use Rattle.laws.specs.Words.{among, lowest};
 ghost use Rattle.solids.specs.declared.Solid.the-variants.{Hexahedron};
-ghost use Rattle.solids.specs.Solids.{four, element, ofTet, onTet, at, opposite, holds, facesOf};
-ghost use Rattle.solids.specs.Cut.{lowestFirst, halves, follow, first, onDiagonal, bitsOf, fan, secondLowest, written, upTo, insert, inOrder, cut};
-ghost use Rattle.solids.specs.Rows.{cutPlaces, rowPlace, binary, rowOf, cutByRow};
+ghost use Rattle.solids.specs.Solids.{four, element, ofTet, onFace, onTet, at, opposite, holds, facesOf};
+ghost use Rattle.solids.specs.Cut.{lowestFirst, halves, follow, first, onDiagonal, bitsOf, fan, secondLowest, written, upTo, inOrder, cut};
+ghost use Rattle.solids.specs.Rows.{cutPlaces, rowPlaces, rowPlace, rowTets, binary, rowOf, cutByRow};
 ghost use Rattle.records.specs.Record.{kindOf, usedOf, elementOf};
 ghost use Rattle.records.specs.Loops.{Whole};
-ghost use Rattle.mesh.specs.BlockLoops.{tetOf, keyed, faceOf, Inserted, Grown, BlockIs, faceIn, faceTets, choice, withBit, rowTet, rowTetsAt};
+ghost use Rattle.mesh.specs.BlockLoops.{tetOf, keyed, faceOf, Inserted, Grown, BlockIs, faceIn, faceTets, choice, withBit, cornersIn, rowTet, rowTetsAt};
 
 // A tetrahedron in vertex numbers.
 pub struct Tet(pub Vertex, pub Vertex, pub Vertex, pub Vertex);
@@ -299,49 +299,83 @@ fn with_bit(number: usize, low: Vertex, high: Vertex, face: Face) -> usize
     2 * number
 }
 
-// The face of a record with four places.
-fn four_at(numbers: &[u16], p: u8, q: u8, r: u8, s: u8) -> Face
-    ensures { λ f. ⌜ faceOf f ≡ four (at (usedOf (now (numbers .entry))) p) (at (usedOf (now (numbers .entry))) q) (at (usedOf (now (numbers .entry))) r) (at (usedOf (now (numbers .entry))) s) ⌝ }
+// The corners of a hexahedron behind a 0, so that a place is an index.
+fn corners_of(numbers: &[u16]) -> [u16; 9]
+    requires { ⌜ Whole (now numbers) ⌝ }
+    requires { ⌜ kindOf (now numbers) ≡ 8 ⌝ }
+    ensures { λ r. ⌜ r ≡ 0 ∷ usedOf (now (numbers .entry)) ⌝ }
+{
+    [
+        0,
+        records::corner(numbers, Place(1)).0,
+        records::corner(numbers, Place(2)).0,
+        records::corner(numbers, Place(3)).0,
+        records::corner(numbers, Place(4)).0,
+        records::corner(numbers, Place(5)).0,
+        records::corner(numbers, Place(6)).0,
+        records::corner(numbers, Place(7)).0,
+        records::corner(numbers, Place(8)).0,
+    ]
+}
+
+// The corner at a place.
+fn corner_at(corners: &[u16; 9], place: Place) -> Vertex
+    requires { ⌜ getD (now corners) 0 0 ≡ 0 ⌝ }
+    requires { ⌜ place .0 ≤ 8 ⌝ }
+    ensures { λ r. ⌜ r .0 ≡ at (cornersIn (now (corners .entry))) (place .0) ⌝ }
+{
+    let i = place.0 as usize;
+    Vertex(corners[i])
+}
+
+// The face with four places.
+fn four_at(corners: &[u16; 9], p: u8, q: u8, r: u8, s: u8) -> Face
+    requires { ⌜ getD (now corners) 0 0 ≡ 0 ⌝ }
+    requires { ⌜ (p ≤ 8) × (q ≤ 8) × (r ≤ 8) × (s ≤ 8) ⌝ }
+    ensures { λ f. ⌜ faceOf f ≡ onFace (at (cornersIn (now (corners .entry)))) (four p q r s) ⌝ }
 {
     Face::Four(
-        vertex_at(numbers, Place(p)),
-        vertex_at(numbers, Place(q)),
-        vertex_at(numbers, Place(r)),
-        vertex_at(numbers, Place(s)),
+        corner_at(corners, Place(p)),
+        corner_at(corners, Place(q)),
+        corner_at(corners, Place(r)),
+        corner_at(corners, Place(s)),
     )
 }
 
 // The choice of far diagonals of a hexahedron, the bit of its first far face last.
-fn diagonals(numbers: &[u16], low: Vertex, high: Vertex) -> usize
-    ensures { λ r. ⌜ r ≡ choice (low .0) (high .0) (facesOf (element Hexahedron (usedOf (now (numbers .entry))))) ⌝ }
+fn diagonals(corners: &[u16; 9], low: Vertex, high: Vertex) -> usize
+    requires { ⌜ getD (now corners) 0 0 ≡ 0 ⌝ }
+    ensures { λ r. ⌜ r ≡ choice (low .0) (high .0) (facesOf (element Hexahedron (cornersIn (now (corners .entry))))) ⌝ }
 {
-    let sixth = with_bit(0, low, high, four_at(numbers, 3, 4, 8, 7));
-    let fifth = with_bit(sixth, low, high, four_at(numbers, 5, 6, 7, 8));
-    let fourth = with_bit(fifth, low, high, four_at(numbers, 2, 3, 7, 6));
-    let third = with_bit(fourth, low, high, four_at(numbers, 1, 5, 8, 4));
-    let second = with_bit(third, low, high, four_at(numbers, 1, 2, 6, 5));
-    with_bit(second, low, high, four_at(numbers, 1, 4, 3, 2))
+    let sixth = with_bit(0, low, high, four_at(corners, 3, 4, 8, 7));
+    let fifth = with_bit(sixth, low, high, four_at(corners, 5, 6, 7, 8));
+    let fourth = with_bit(fifth, low, high, four_at(corners, 2, 3, 7, 6));
+    let third = with_bit(fourth, low, high, four_at(corners, 1, 5, 8, 4));
+    let second = with_bit(third, low, high, four_at(corners, 1, 2, 6, 5));
+    with_bit(second, low, high, four_at(corners, 1, 4, 3, 2))
 }
 
 // The choice of far diagonals of a hexahedron whose lowest corner's place is given.
-fn choice_at(numbers: &[u16], place: Place) -> usize
-    requires { ⌜ Whole (now numbers) ⌝ }
-    requires { ⌜ place .0 ≡ first (usedOf (now numbers)) ⌝ }
-    ensures { λ r. ⌜ r ≡ binary (bitsOf (usedOf (now (numbers .entry)))) ⌝ }
+fn choice_at(corners: &[u16; 9], place: Place) -> usize
+    requires { ⌜ getD (now corners) 0 0 ≡ 0 ⌝ }
+    requires { ⌜ length (cornersIn (now corners)) ≡ 8 ⌝ }
+    requires { ⌜ place .0 ≡ first (cornersIn (now corners)) ⌝ }
+    ensures { λ r. ⌜ r ≡ binary (bitsOf (cornersIn (now (corners .entry)))) ⌝ }
 {
-    let low = vertex_at(numbers, place);
-    let high = vertex_at(numbers, opposite_place(place));
-    diagonals(numbers, low, high)
+    let low = corner_at(corners, place);
+    let high = corner_at(corners, opposite_place(place));
+    diagonals(corners, low, high)
 }
 
 // The row of a hexahedron: that of its lowest corner and its three far diagonals.
-fn row_of(numbers: &[u16]) -> usize
+fn row_of(numbers: &[u16], corners: &[u16; 9]) -> usize
     requires { ⌜ Whole (now numbers) ⌝ }
     requires { ⌜ kindOf (now numbers) ≡ 8 ⌝ }
+    requires { ⌜ now corners ≡ 0 ∷ usedOf (now numbers) ⌝ }
     ensures { λ r. ⌜ r ≡ rowOf (usedOf (now (numbers .entry))) ⌝ }
 {
     let place = lowest_place(numbers);
-    let number = choice_at(numbers, place);
+    let number = choice_at(corners, place);
     8 * (place.0 as usize - 1) + number
 }
 
@@ -356,28 +390,30 @@ fn place_in(cuts: &[u8; 1536], row: usize, at: usize) -> Place
     Place(cuts[i])
 }
 
-// The vertex of a record at the place `place` of a row of cuts.
-fn row_vertex(numbers: &[u16], cuts: &[u8; 1536], row: usize, place: usize) -> Vertex
+// The corner at the place `place` of a row of cuts.
+fn row_vertex(corners: &[u16; 9], cuts: &[u8; 1536], row: usize, place: usize) -> Vertex
+    requires { ⌜ getD (now corners) 0 0 ≡ 0 ⌝ }
     requires { ⌜ now cuts ≡ cutPlaces ⌝ }
     requires { ⌜ row < 64 ⌝ }
     requires { ⌜ place < 24 ⌝ }
-    ensures { λ r. ⌜ r .0 ≡ at (usedOf (now (numbers .entry))) (rowPlace row place) ⌝ }
+    ensures { λ r. ⌜ r .0 ≡ at (cornersIn (now (corners .entry))) (rowPlace row place) ⌝ }
 {
-    vertex_at(numbers, place_in(cuts, row, place))
+    corner_at(corners, place_in(cuts, row, place))
 }
 
 // The tetrahedron k, from 0, of a row of cuts, in vertex numbers.
-fn row_tet(numbers: &[u16], cuts: &[u8; 1536], row: usize, k: usize) -> Tet
+fn row_tet(corners: &[u16; 9], cuts: &[u8; 1536], row: usize, k: usize) -> Tet
+    requires { ⌜ getD (now corners) 0 0 ≡ 0 ⌝ }
     requires { ⌜ now cuts ≡ cutPlaces ⌝ }
     requires { ⌜ row < 64 ⌝ }
     requires { ⌜ k < 6 ⌝ }
-    ensures { λ t. ⌜ tetOf t ≡ onTet (at (usedOf (now (numbers .entry)))) (rowTet row k) ⌝ }
+    ensures { λ t. ⌜ tetOf t ≡ onTet (at (cornersIn (now (corners .entry)))) (rowTet row k) ⌝ }
 {
     Tet(
-        row_vertex(numbers, cuts, row, 4 * k),
-        row_vertex(numbers, cuts, row, 4 * k + 1),
-        row_vertex(numbers, cuts, row, 4 * k + 2),
-        row_vertex(numbers, cuts, row, 4 * k + 3),
+        row_vertex(corners, cuts, row, 4 * k),
+        row_vertex(corners, cuts, row, 4 * k + 1),
+        row_vertex(corners, cuts, row, 4 * k + 2),
+        row_vertex(corners, cuts, row, 4 * k + 3),
     )
 }
 
@@ -385,23 +421,42 @@ fn row_tet(numbers: &[u16], cuts: &[u8; 1536], row: usize, k: usize) -> Tet
 fn with_row_tet(
     keys: &mut [u64; 6],
     n: usize,
-    numbers: &[u16],
+    corners: &[u16; 9],
     cuts: &[u8; 1536],
     row: usize,
     k: usize,
 ) -> usize
+    requires { ⌜ getD (now corners) 0 0 ≡ 0 ⌝ }
     requires { ⌜ now cuts ≡ cutPlaces ⌝ }
     requires { ⌜ row < 64 ⌝ }
     requires { ⌜ k < 6 ⌝ }
     requires { ⌜ n < 6 ⌝ }
     requires { ⌜ length (now keys) ≡ 6 ⌝ }
-    ensures { λ r. ⌜ Grown (now (keys .entry)) n (rowTetsAt (usedOf (now (numbers .entry))) row k) (now (keys .exit)) r ⌝ }
+    ensures { λ r. ⌜ Grown (now (keys .entry)) n (rowTetsAt (cornersIn (now (corners .entry))) row k) (now (keys .exit)) r ⌝ }
 {
     let p = place_in(cuts, row, 4 * k);
     if p.0 == 0 {
         return n;
     }
-    added(keys, n, row_tet(numbers, cuts, row, k))
+    added(keys, n, row_tet(corners, cuts, row, k))
+}
+
+// The tetrahedra of a row of the table of cuts, in order; how many they are.
+fn row_tets(corners: &[u16; 9], cuts: &[u8; 1536], row: usize, keys: &mut [u64; 6]) -> usize
+    requires { ⌜ getD (now corners) 0 0 ≡ 0 ⌝ }
+    requires { ⌜ now cuts ≡ cutPlaces ⌝ }
+    requires { ⌜ row < 64 ⌝ }
+    requires { ⌜ length (now keys) ≡ 6 ⌝ }
+    ensures { λ r. ⌜ BlockIs (now (keys .exit)) r (inOrder (map (onTet (at (cornersIn (now (corners .entry))))) (rowTets (rowPlaces row)))) ⌝ }
+{
+    let mut n = 0;
+    let mut k = 6;
+    while 0 < k {
+        k -= 1;
+        let next = with_row_tet(keys, n, corners, cuts, row, k);
+        n = next;
+    }
+    n
 }
 
 // A hexahedron's tetrahedra, by its row of the table of cuts; how many they are.
@@ -412,15 +467,9 @@ fn row_block(numbers: &[u16], cuts: &[u8; 1536], keys: &mut [u64; 6]) -> usize
     requires { ⌜ length (now keys) ≡ 6 ⌝ }
     ensures { λ r. ⌜ BlockIs (now (keys .exit)) r (cutByRow (usedOf (now (numbers .entry)))) ⌝ }
 {
-    let row = row_of(numbers);
-    let mut n = 0;
-    let mut k = 6;
-    while 0 < k {
-        k -= 1;
-        let next = with_row_tet(keys, n, numbers, cuts, row, k);
-        n = next;
-    }
-    n
+    let corners = corners_of(numbers);
+    let row = row_of(numbers, &corners);
+    row_tets(&corners, cuts, row, keys)
 }
 
 // A block of n with a vertex followed by each triangle of a face; how many they are then.
@@ -489,7 +538,9 @@ fn hexahedron_count(numbers: &[u16]) -> usize
     requires { ⌜ kindOf (now numbers) ≡ 8 ⌝ }
     ensures { λ r. ⌜ r ≡ length (cut (elementOf (now (numbers .entry)))) ⌝ }
 {
-    if choice_at(numbers, lowest_place(numbers)) == 0 {
+    let corners = corners_of(numbers);
+    let place = lowest_place(numbers);
+    if choice_at(&corners, place) == 0 {
         return 5;
     }
     6

@@ -4,10 +4,8 @@ use mathlib.Core.List.{List, [], _∷_}
 use Prim.Native.Nat.{ℕ}
 use native.Mathlib.Omega.{arith}
 use denote.Ref.{now}
-use borrow.Author.Needs.{needs}
 use Rattle.solids.specs.Solids.{Face, four, at}
-use Rattle.records.specs.Record.{usedOf}
-use Rattle.mesh.specs.BlockLoops.{faceOf}
+use Rattle.mesh.specs.BlockLoops.{faceOf, cornersIn}
 use Rattle.mesh.proofs.ChoiceLaws.{bit-most, choice-more, choice-none}
 use Rattle.mesh.proofs.blocks.diagonals.Statement.{statement}
 use Rattle.mesh.proofs.blocks.diagonals.Tie as tie
@@ -16,17 +14,17 @@ abbrev face : List ℕ → ℕ → ℕ → ℕ → ℕ → Face ℕ
 face vs p q r s = four (at vs p) (at vs q) (at vs r) (at vs s)
 
 four-at-requires : tie.Need-four-at-requires
-four-at-requires c κs = search needs
+four-at-requires c κs = (c .pre, (omega arith, omega arith, omega arith, omega arith))
 
 with-bit-requires : tie.Need-with-bit-requires
 with-bit-requires c κs = omega (arith)
 
 four-at-requires-2 : tie.Need-four-at-requires-2
-four-at-requires-2 c κs = search needs
+four-at-requires-2 c κs = (c .before .before .pre, (omega arith, omega arith, omega arith, omega arith))
 
 with-bit-requires-2 : tie.Need-with-bit-requires-2
 with-bit-requires-2 c κs =
-    let a = c .before .before .before .before .args in
+    let a = c .before .before .before .args in
     omega (
       arith,
       c .before .with-bit .ensures,
@@ -34,11 +32,11 @@ with-bit-requires-2 c κs =
     )
 
 four-at-requires-3 : tie.Need-four-at-requires-3
-four-at-requires-3 c κs = search needs
+four-at-requires-3 c κs = (c .before .before .before .before .pre, (omega arith, omega arith, omega arith, omega arith))
 
 with-bit-requires-3 : tie.Need-with-bit-requires-3
 with-bit-requires-3 c κs =
-    let a = c .before .before .before .before .before .before .args in
+    let a = c .before .before .before .before .before .args in
     omega (
       arith,
       c .before .before .before .with-bit .ensures,
@@ -48,11 +46,11 @@ with-bit-requires-3 c κs =
     )
 
 four-at-requires-4 : tie.Need-four-at-requires-4
-four-at-requires-4 c κs = search needs
+four-at-requires-4 c κs = (c .before .before .before .before .before .before .pre, (omega arith, omega arith, omega arith, omega arith))
 
 with-bit-requires-4 : tie.Need-with-bit-requires-4
 with-bit-requires-4 c κs =
-    let a = c .before .before .before .before .before .before .before .before .args in
+    let a = c .before .before .before .before .before .before .before .args in
     omega (
       arith,
       c .before .before .before .before .before .with-bit .ensures,
@@ -64,11 +62,11 @@ with-bit-requires-4 c κs =
     )
 
 four-at-requires-5 : tie.Need-four-at-requires-5
-four-at-requires-5 c κs = search needs
+four-at-requires-5 c κs = (c .before .before .before .before .before .before .before .before .pre, (omega arith, omega arith, omega arith, omega arith))
 
 with-bit-requires-5 : tie.Need-with-bit-requires-5
 with-bit-requires-5 c κs =
-    let a = c .before .before .before .before .before .before .before .before .before .before .args in
+    let a = c .before .before .before .before .before .before .before .before .before .args in
     omega (
       arith,
       c .before .before .before .before .before .before .before .with-bit .ensures,
@@ -82,11 +80,11 @@ with-bit-requires-5 c κs =
     )
 
 four-at-requires-6 : tie.Need-four-at-requires-6
-four-at-requires-6 c κs = search needs
+four-at-requires-6 c κs = (c .before .before .before .before .before .before .before .before .before .before .pre, (omega arith, omega arith, omega arith, omega arith))
 
 with-bit-requires-6 : tie.Need-with-bit-requires-6
 with-bit-requires-6 c κs =
-    let a = c .before .before .before .before .before .before .before .before .before .before .before .before .args in
+    let a = c .before .before .before .before .before .before .before .before .before .before .before .args in
     omega (
       arith,
       c .before .before .before .before .before .before .before .before .before .with-bit .ensures,
@@ -103,8 +101,8 @@ with-bit-requires-6 c κs =
 
 returns : tie.Need-returns
 returns c =
-    let a = c .before .before .before .before .before .before .before .before .before .before .before .before .before .args in
-    let vs = usedOf (now (a .numbers)) in
+    let a = c .before .before .before .before .before .before .before .before .before .before .before .before .args in
+    let vs = cornersIn (now (a .corners)) in
     let low = a .low .0 in
     let high = a .high .0 in
     let n1 = choice-more low high (face vs 3 4 8 7) [] (c .before .before .before .before .before .before .before .before .before .before .with-bit .ensures) (c .before .before .before .before .before .before .before .before .before .before .before .four-at .ensures) (choice-none low high) in

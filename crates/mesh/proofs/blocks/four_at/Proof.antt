@@ -1,32 +1,30 @@
--- The four vertices, place by place.
+-- The four corners, place by place.
 -- Assumes nothing.
-use mathlib.Core.Path.{_≡_}
 use Rattle.solids.specs.Solids.{four}
-use borrow.Author.Needs.{needs}
 use Rattle.mesh.proofs.blocks.four_at.Statement.{statement}
 use Rattle.mesh.proofs.blocks.four_at.Tie as tie
 
-vertex-at-requires : tie.Need-vertex-at-requires
-vertex-at-requires c κs = search needs
+corner-at-requires : tie.Need-corner-at-requires
+corner-at-requires c κs = (c .pre .0, c .pre .1 .0)
 
-vertex-at-requires-2 : tie.Need-vertex-at-requires-2
-vertex-at-requires-2 c κs = search needs
+corner-at-requires-2 : tie.Need-corner-at-requires-2
+corner-at-requires-2 c κs = (c .before .pre .0, c .before .pre .1 .1)
 
-vertex-at-requires-3 : tie.Need-vertex-at-requires-3
-vertex-at-requires-3 c κs = search needs
+corner-at-requires-3 : tie.Need-corner-at-requires-3
+corner-at-requires-3 c κs = (c .before .before .pre .0, c .before .before .pre .1 .2)
 
-vertex-at-requires-4 : tie.Need-vertex-at-requires-4
-vertex-at-requires-4 c κs = search needs
+corner-at-requires-4 : tie.Need-corner-at-requires-4
+corner-at-requires-4 c κs = (c .before .before .before .pre .0, c .before .before .before .pre .1 .3)
 
 returns : tie.Need-returns
-returns c = λ i. four (c .before .before .before .vertex-at .ensures i) (c .before .before .vertex-at2 .ensures i) (c .before .vertex-at3 .ensures i) (c .vertex-at4 .ensures i)
+returns c = λ i. four (c .before .before .before .corner-at .ensures i) (c .before .before .corner-at2 .ensures i) (c .before .corner-at3 .ensures i) (c .corner-at4 .ensures i)
 
 pub four-at-spec : {M : Type 1} → statement M
 four-at-spec =
     tie.close
     (tie.spec
-    vertex-at-requires
-    vertex-at-requires-2
-    vertex-at-requires-3
-    vertex-at-requires-4
+    corner-at-requires
+    corner-at-requires-2
+    corner-at-requires-3
+    corner-at-requires-4
     returns)

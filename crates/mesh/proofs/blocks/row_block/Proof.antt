@@ -1,100 +1,39 @@
--- The loop goes from the last tetrahedron of the row to the first; it keeps those behind it in order.
+-- The row of the record, read from the table.
 -- Assumes nothing.
-use mathlib.Core.Path.{_≡_, sym, ap, _∙_}
-use mathlib.Core.List.{List, _++_}
-use Prim.Native.Nat.{ℕ, suc, _+_, _-_, _≤_, _<_}
+use mathlib.Core.List.{map}
 use native.Mathlib.Omega.{arith}
 use denote.Ref.{now}
-use borrow.Author.Needs.{needs}
+use Rattle.solids.specs.Solids.{at, onTet}
 use Rattle.solids.specs.Cut.{inOrder}
-use Rattle.solids.specs.Rows.{rowOf, cutByRow}
-use Rattle.records.specs.Record.{usedOf}
-use lib.ListN.{length}
-use Rattle.mesh.specs.BlockLoops.{BlockIs, Grown, rowTetsAt}
-use Rattle.mesh.proofs.BlockLaws.{grown-block, block-none, block-same}
-use Rattle.mesh.proofs.RowTetLaws.{rowFrom, row-next, row-end, one-at-most}
+use Rattle.solids.specs.Rows.{rowPlaces, rowTets, cutByRow}
+use Rattle.mesh.proofs.BlockLaws.{block-same}
 use Rattle.mesh.proofs.RecordCutLaws.{row-below}
+use Rattle.mesh.proofs.CornerLaws.{front, corners-are}
 use Rattle.mesh.proofs.blocks.row_block.Statement.{statement}
 use Rattle.mesh.proofs.blocks.row_block.Tie as tie
 
-record Kept (vs : List ℕ) (row : ℕ) (l : List ℕ) (n k : ℕ) : Type 0 where
-  below : row < 64
-  row-is : row ≡ rowOf vs
-  room : n + k ≤ 6
-  wide : length l ≡ 6
-  same : BlockIs l n (inOrder (rowFrom vs row k))
+corners-of-requires : tie.Need-corners-of-requires
+corners-of-requires c κs = (c .before .pre .0, c .before .pre .1 .0)
 
-module _ {vs : List ℕ} {row : ℕ} {l : List ℕ} {n k : ℕ} (h : Kept vs row l n k) (p : 0 < k) where
-  step : {l′ : List ℕ} {r : ℕ} → Grown l n (rowTetsAt vs row (k - 1)) l′ r → Kept vs row l′ r (k - 1)
-  step g =
-      let one = one-at-most vs row (k - 1) in
-      let s : suc (k - 1) ≡ k = omega arith in
-      record {
-        below = h .below;
-        row-is = h .row-is;
-        room = omega (arith, g .many, h .room);
-        wide = g .wide;
-        same =
-            block-same
-            (ap inOrder (sym (row-next vs row (h .below) (k - 1) (omega (arith, h .room)) ∙ ap (λ (j : ℕ). rowTetsAt vs row (k - 1) ++ rowFrom vs row j) s)))
-            (grown-block (rowFrom vs row k) (h .same) g (omega (arith, h .room)));
-      }
+row-of-requires : tie.Need-row-of-requires
+row-of-requires c κs =
+    let s = c .before .before .before in
+    (s .pre .0, (s .pre .1 .0, c .before .corners-of .ensures))
 
-abbrev Inv-loop : tie.InvT-loop
-Inv-loop numbers cuts keys₀ row n₀ k₀ keys n k = Kept (usedOf numbers) row keys n k
-
-abbrev μ-loop : tie.MeasureT-loop
-μ-loop numbers cuts keys₀ row n₀ k₀ keys n k = k
-
-row-of-requires : tie.Need-row-of-requires Inv-loop μ-loop
-row-of-requires c κs = (c .before .pre .0, c .before .pre .1 .0)
-
-loop-holds : tie.Need-loop-holds Inv-loop μ-loop
-loop-holds c =
-    let s = c .before .before in
+row-tets-requires : tie.Need-row-tets-requires
+row-tets-requires c κs =
+    let s = c .before .before .before .before .before .before in
     let r = now (s .args .numbers) in
-    let e = c .row-of .ensures in
-    let l : c .row-of .result < 64 = omega (arith, e, row-below r (s .pre .0) (s .pre .1 .0)) in
-    record {
-      below = l;
-      row-is = e;
-      room = omega arith;
-      wide = s .pre .1 .1 .1;
-      same = block-same (ap inOrder (sym (row-end (usedOf r) (c .row-of .result) l))) (block-none (now (s .args .keys)));
-    }
+    let below = row-below r (s .pre .0) (s .pre .1 .0) in
+    (front r (c .before .before .before .before .corners-of .ensures), (s .pre .1 .1 .0, (omega (arith, c .before .before .row-of .ensures), s .pre .1 .1 .1)))
 
-sub-k : tie.Need-sub-k Inv-loop μ-loop
-sub-k c = omega arith
-
-with-row-tet-requires : tie.Need-with-row-tet-requires Inv-loop μ-loop
-with-row-tet-requires c κs =
-    let h = c .before .before .loop .inv in
-    (c .before .before .before .before .before .pre .1 .1 .0, (h .below, (omega (arith, h .room), (omega (arith, h .room), h .wide))))
-
-loop-less : tie.Need-loop-less Inv-loop μ-loop
-loop-less c = omega arith
-
-loop-again : tie.Need-loop-again Inv-loop μ-loop
-loop-again c = step (c .before .before .before .loop .inv) (c .before .before .loop-test .taken) (c .with-row-tet .ensures)
-
-returns : tie.Need-returns Inv-loop μ-loop
-unfolding cutByRow rowFrom
+returns : tie.Need-returns
+unfolding cutByRow
 returns c =
-    let z : c .before .loop .k ≡ 0 = omega arith in
-    let vs = usedOf (now (c .before .before .before .before .args .numbers)) in
-    let h = c .before .loop .inv in
-    block-same (λ i. inOrder (rowFrom vs (h .row-is i) (z i))) (h .same)
+    let s = c .before .before .before .before .before .before .before in
+    let are = corners-are (now (s .args .numbers)) (c .before .before .before .before .before .corners-of .ensures) in
+    block-same (λ i. inOrder (map (onTet (at (are i))) (rowTets (rowPlaces (c .before .before .before .row-of .ensures i))))) (c .row-tets .ensures)
 
 pub row-block-spec : {M : Type 1} → statement M
 row-block-spec =
-    tie.close
-    (tie.spec
-    Inv-loop
-    μ-loop
-    row-of-requires
-    loop-holds
-    sub-k
-    with-row-tet-requires
-    loop-less
-    loop-again
-    returns)
+    tie.close (tie.spec corners-of-requires row-of-requires row-tets-requires returns)

@@ -1,6 +1,5 @@
 -- None is zero and none is negative.
 -- Assumes nothing.
-use mathlib.Core.Path.{_≡_}
 use borrow.Author.Tests.{eq-eqb, ne-eqb}
 use Rattle.mesh.proofs.signs.is_sound.Statement.{statement}
 use Rattle.mesh.proofs.signs.is_sound.Tie as tie
