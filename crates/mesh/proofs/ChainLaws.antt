@@ -20,10 +20,10 @@ use Rattle.solids.specs.Fit.{common, fits}
 use Rattle.records.specs.Record.{width, kindOf, numbersOf, usedOf, spareOf, recordAt, elementOf, elementAt}
 use Rattle.records.specs.Loops.{isNumber, Faultless, WholeTable}
 use Rattle.records.proofs.RecordLaws.{used-length, kind-small, record-parts, clean-faultless}
-use Rattle.mesh.specs.Judge.{mostVertices, mostElements, badRecord, pairFits, misfit}
+use Rattle.mesh.specs.Judge.{mostVertices, mostElements, badRecord, badElement, pairFits, misfit}
 use Rattle.mesh.proofs.JudgeLaws.{record-clean}
 use Rattle.mesh.specs.JudgeLoops.{Recorded}
-use Rattle.mesh.specs.FitLoops.{Numbered, holds, latest, Filed, Seen}
+use Rattle.mesh.specs.FitLoops.{Pair, Numbered, holds, latest, Filed, Seen}
 
 -- ---- the greatest number below a bound
 
@@ -93,9 +93,16 @@ kind-holds t v j = let e : (width * j) % width ≡ 0 = omega arith in rw e
 
 -- ---- records without a fault
 
+pub whole-front : (t : List ℕ) (n m : ℕ) → WholeTable t n → m ≤ n → WholeTable t m
+whole-front t n m w h = record { few = omega (arith, w .few); long = omega (arith, w .long); whole = λ k l. w .whole k (omega arith) }
+
+-- the two records of a pair
+pub pair-whole : (t : List ℕ) (i j : ℕ) {a b : List ℕ} → WholeTable t (j + 1) → i < j → a ≡ recordAt t i → b ≡ recordAt t j → Pair a b
+pair-whole t i j w h p q = record { first = rw p (w .whole i (omega arith)); second = rw q (w .whole j (omega arith)) }
+
 pub numbered-front : (t : List ℕ) (n m : ℕ) → Numbered t n → m ≤ n → Numbered t m
 numbered-front t n m w h = record {
-  table = record { few = omega (arith, w .table .few); long = omega (arith, w .table .long); whole = λ k l. w .table .whole k (omega arith) };
+  table = whole-front t n m (w .table) h;
   low = λ x l. w .low x (omega arith);
 }
 
@@ -262,6 +269,20 @@ misfit-some t i j h e = go (misfit t j) refl
     go : (m : ℕ) → misfit t j ≡ m → 0 < m
     go zero z = absurd (subst T (sym (not-false (pairFits t i j) (least-all (λ k. not (pairFits t k j)) j z i h)) ∙ e) tt)
     go (suc m) z = omega arith
+
+least-high : (p : ℕ → Bool) (n : ℕ) → least p n ≤ n
+unfolding least
+least-high p zero = zero-le
+least-high p (suc n) = go (eqb (least p n) 0) (p n) (least-high p n)
+  where
+    go : (b d : Bool) → least p n ≤ n → cond b (cond d (suc n) 0) (least p n) ≤ suc n
+    go true true h = omega arith
+    go true false h = omega arith
+    go false d h = omega arith
+
+pub bad-high : (t : List ℕ) (n : ℕ) → badElement t n ≤ n
+unfolding badElement
+bad-high t n = least-high (λ j. ltb 0 (misfit t j)) n
 
 least-none : (p : ℕ → Bool) (n : ℕ) → ((k : ℕ) → k < n → p k ≡ false) → least p n ≡ 0
 unfolding least

@@ -1,15 +1,18 @@
 -- Shapes that only the private functions of fitting ask for. The definitions of fitting itself stand in solids/specs/Fit.antt.
 use mathlib.Core.Path.{_≡_}
 use mathlib.Core.Bool.{Bool, true, false, cond, _&&_}
-use mathlib.Core.List.{List}
+use mathlib.Core.List.{List, [], _∷_, map}
 use Prim.Native.Nat.{ℕ, zero, suc, _+_, _*_, _/_, _%_, _≤_, _<_}
 use lib.Dec.{T, eqb, ltb}
 use lib.ListN.{length, getD, take}
-use Rattle.laws.specs.Words.{keep, among}
+use Rattle.laws.specs.Words.{keep, some, gather, among}
 use Rattle.records.specs.Record.{width}
-use Rattle.records.specs.Loops.{WholeTable}
+use Rattle.records.specs.Loops.{Whole, WholeTable}
 use Rattle.mesh.specs.Judge.{mostVertices, mostElements, pairFits, misfit}
-use Rattle.solids.specs.Solids.{Vertex, Face, three, four}
+use Rattle.solids.specs.Solids.{Vertex, Place, Face, three, four, element, faces, edgesOf, ends}
+use Rattle.solids.specs.declared.Solid.{Solid}
+use Rattle.solids.specs.declared.Solid.the-variants.{Tetrahedron, Pyramid, Prism, Hexahedron}
+use Rattle.solids.specs.Fit.{proper, sameSet}
 use Rattle.mesh.specs.declared.fit.cycles.Cycle.{Cycle}
 use Rattle.mesh.specs.declared.fit.cycles.Cycle.the-variants.{Three, Four}
 
@@ -22,6 +25,45 @@ faceOf (Four p q r s) = four (p .0) (q .0) (r .0) (s .0)
 pub record Collected (corners others memory : List ℕ) (r : ℕ) : Type 0 where
   pub few : r ≤ length corners
   pub these : take r memory ≡ keep (λ v. among v others) corners
+
+-- two records that are to be tested
+pub record Pair (a b : List ℕ) : Type 0 where
+  pub first : Whole a
+  pub second : Whole b
+
+-- two proper elements, and the vertices that they have in common, two or more
+pub record Shared (c : List Vertex) (s : Solid) (vs : List Vertex) (s′ : Solid) (ws : List Vertex) : Type 0 where
+  pub mine : T (proper (element s vs))
+  pub theirs : T (proper (element s′ ws))
+  pub these : c ≡ keep (λ v. among v ws) vs
+  pub many : 1 < length c
+
+-- ---- edges by their places
+
+-- an edge of the solid joins the two places
+unfoldable pub joined : Solid → Place → Place → Bool
+joined s p q = some (λ E. sameSet (p ∷ q ∷ []) (ends E)) (gather edgesOf (faces s))
+
+-- the places from 0, which is none
+abbrev pub nine : List Place
+nine = 0 ∷ 1 ∷ 2 ∷ 3 ∷ 4 ∷ 5 ∷ 6 ∷ 7 ∷ 8 ∷ []
+
+-- for each solid and each place a row: 1 at each place that an edge joins it to, 0 elsewhere
+unfoldable pub edgeRows : List (List ℕ)
+edgeRows = gather (λ s. map (λ p. map (λ q. cond (joined s p q) 1 0) nine) nine) (Tetrahedron ∷ Pyramid ∷ Prism ∷ Hexahedron ∷ [])
+
+-- where the rows of a solid start
+abbrev pub firstEdge : Solid → ℕ
+firstEdge Tetrahedron = 0
+firstEdge Pyramid = 9
+firstEdge Prism = 18
+firstEdge Hexahedron = 27
+
+-- two vertices of a proper element
+pub record Ends (u v : Vertex) (s : Solid) (vs : List Vertex) : Type 0 where
+  pub whole : T (proper (element s vs))
+  pub first : T (among u vs)
+  pub second : T (among v vs)
 
 -- ---- the places of a table by their vertices
 

@@ -10,6 +10,7 @@ use Rattle.solids.specs.Fit.{fits}
 use Rattle.records.specs.Record.{recordAt, elementAt, elementOf}
 use Rattle.mesh.specs.Judge.{pairFits, misfit}
 use Rattle.laws.proofs.PassLaws.{Failed, failed-start, failed-here, failed-next, failed-end}
+use Rattle.mesh.proofs.ChainLaws.{pair-whole}
 use Rattle.mesh.proofs.fit.misfit_of.Statement.{statement}
 use Rattle.mesh.proofs.fit.misfit_of.Tie as tie
 
@@ -38,7 +39,9 @@ record-at-requires-2 : tie.Need-record-at-requires-2 Inv-loop μ-loop
 record-at-requires-2 c κs = search needs
 
 pair-fits-requires : tie.Need-pair-fits-requires Inv-loop μ-loop
-pair-fits-requires c κs = search needs
+pair-fits-requires c κs =
+    let a = c .before .before .before .before .before .args in
+    pair-whole (now (a .table)) (c .before .before .loop .i) (a .j) (c .before .before .before .before .before .pre) (c .before .loop-test .taken) (c .record-at2 .ensures) (c .before .before .before .record-at .ensures)
 
 add-result : tie.Need-add-result Inv-loop μ-loop
 add-result c = search needs

@@ -11,7 +11,7 @@ use denote.Ref.{now}
 use Rattle.solids.specs.Fit.{fits}
 use Rattle.records.specs.Record.{recordAt, elementAt, elementOf}
 use Rattle.mesh.specs.Judge.{pairFits}
-use Rattle.mesh.proofs.ChainLaws.{seen-more}
+use Rattle.mesh.proofs.ChainLaws.{pair-whole, seen-more}
 use Rattle.mesh.proofs.fit.chains.fits_once.Statement.{statement}
 use Rattle.mesh.proofs.fit.chains.fits_once.Tie as tie
 
@@ -35,7 +35,10 @@ record-at-requires-2 : tie.Need-record-at-requires-2
 record-at-requires-2 c κs = search needs
 
 pair-fits-requires : tie.Need-pair-fits-requires
-pair-fits-requires c κs = search needs
+pair-fits-requires c κs =
+    let a = c .before .before .before .before .before .args in
+    let p = c .before .before .before .before .before .pre in
+    pair-whole (now (a .table)) (a .i) (a .j) (p .table) (p .early) (c .before .record-at .ensures) (c .record-at2 .ensures)
 
 returns-2 : tie.Need-returns-2
 returns-2 c =
