@@ -88,9 +88,14 @@ pub record Filed (t : List ℕ) (m : ℕ) (heads links : List ℕ) : Type 0 wher
   pub first : (v : ℕ) → v ≤ mostVertices → getD heads v 0 ≡ latest (holds t v) m
   pub next : (x : ℕ) → x < m → 0 < x % width → getD links x 0 ≡ latest (holds t (getD t x 0)) x
 
--- the elements that are marked fit element j
+-- a mark for each element; those that are marked 2 fit element j
 pub record Seen (t : List ℕ) (j : ℕ) (marks : List ℕ) : Type 0 where
-  pub fit : (i : ℕ) → 0 < getD marks i 0 → pairFits t i j ≡ true
+  pub wide : length marks ≡ mostElements
+  pub fit : (i : ℕ) → 1 < getD marks i 0 → pairFits t i j ≡ true
+
+-- no mark is less than it was
+abbrev pub Grown : List ℕ → List ℕ → Type 0
+Grown old new = (i : ℕ) → getD old i 0 ≤ getD new i 0
 
 -- element j is next, and the places of those before it are filed
 pub record Joining (t : List ℕ) (j : ℕ) (heads links : List ℕ) : Type 0 where
@@ -103,10 +108,13 @@ pub record Meeting (t : List ℕ) (i j : ℕ) (marks : List ℕ) : Type 0 where
   pub early : i < j
   pub seen : Seen t j marks
 
--- the verdict of a pair, and the marks after it
-pub record Met (t : List ℕ) (i j : ℕ) (marks : List ℕ) (r : Bool) : Type 0 where
-  pub verdict : r ≡ pairFits t i j
-  pub seen : Seen t j marks
+-- element i is marked, and fits where it was marked before; or it does not fit
+pub record Met (t : List ℕ) (i j : ℕ) (old new : List ℕ) (r : Bool) : Type 0 where
+  pub seen : Seen t j new
+  pub grown : Grown old new
+  pub marked : r ≡ true → 0 < getD new i 0
+  pub again : r ≡ true → 0 < getD old i 0 → pairFits t i j ≡ true
+  pub bad : r ≡ false → pairFits t i j ≡ false
 
 -- the chain of a vertex is to be walked
 pub record Walking (t : List ℕ) (j v : ℕ) (heads links marks : List ℕ) : Type 0 where
@@ -115,8 +123,10 @@ pub record Walking (t : List ℕ) (j v : ℕ) (heads links marks : List ℕ) : T
   pub filed : Filed t (width * j) heads links
   pub seen : Seen t j marks
 
--- each element before j that holds the vertex fits j, or j has a misfit
-pub record Walked (t : List ℕ) (j v : ℕ) (marks : List ℕ) (r : Bool) : Type 0 where
-  pub seen : Seen t j marks
-  pub fit : r ≡ true → (x : ℕ) → x < width * j → holds t v x ≡ true → pairFits t (x / width) j ≡ true
+-- each element before j that holds the vertex is marked, and fits where it was marked before; or j has a misfit
+pub record Walked (t : List ℕ) (j v : ℕ) (old new : List ℕ) (r : Bool) : Type 0 where
+  pub seen : Seen t j new
+  pub grown : Grown old new
+  pub marked : r ≡ true → (x : ℕ) → x < width * j → holds t v x ≡ true → 0 < getD new (x / width) 0
+  pub again : r ≡ true → (x : ℕ) → x < width * j → holds t v x ≡ true → 0 < getD old (x / width) 0 → pairFits t (x / width) j ≡ true
   pub bad : r ≡ false → 0 < misfit t j

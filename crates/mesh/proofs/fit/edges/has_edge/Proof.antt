@@ -1,7 +1,6 @@
 -- `mesh::fit::edges::has_edge` meets its contract: the ends are an edge where their places are.
 -- Assumes nothing.
-use Prim.Native.Nat.{_<_}
-use mathlib.Core.Path.{_≡_, sym, ap₂, _∙_}
+use mathlib.Core.Path.{ap₂, _∙_}
 use mathlib.Core.Bool.{Bool}
 use borrow.Author.Needs.{needs}
 use Rattle.mesh.specs.FitLoops.{joined}

@@ -1,7 +1,6 @@
 -- `mesh::fit::pair::share_edge` meets its contract: more than two vertices are no edge, and two are asked of the one element and then of the other.
 -- Assumes nothing.
 use native.Mathlib.Omega.{arith}
-use borrow.Author.Needs.{needs}
 use denote.Ref.{now}
 use Rattle.mesh.proofs.EdgeLaws.{ends-mine, ends-theirs, more-no-edge, edge-both, edge-none}
 use Rattle.mesh.proofs.fit.pair.share_edge.Statement.{statement}
