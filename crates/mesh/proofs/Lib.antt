@@ -2,6 +2,7 @@
 pub mod FitFaceLaws
 pub mod FittingLaws
 pub mod ChainLaws
+pub mod EdgeLaws
 pub mod JudgeLaws
 pub mod KeyLaws
 pub mod VerdictLaws

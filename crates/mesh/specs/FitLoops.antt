@@ -1,16 +1,19 @@
 -- Shapes that only the private functions of fitting ask for. The definitions of fitting itself stand in solids/specs/Fit.antt.
 use mathlib.Core.Path.{_≡_}
 use mathlib.Core.Bool.{Bool, true, false, cond, _&&_}
-use mathlib.Core.List.{List}
+use mathlib.Core.List.{List, [], _∷_, map}
 use Prim.Native.Nat.{ℕ, zero, suc, _+_, _*_, _/_, _%_, _≤_, _<_}
 use lib.Dec.{T, eqb, ltb}
 use lib.ListN.{length, getD, take}
-use Rattle.laws.specs.Words.{keep, among}
+use Rattle.laws.specs.Words.{keep, some, gather, among}
 use Rattle.records.specs.Record.{width}
-use Rattle.records.specs.Loops.{WholeTable}
 use Rattle.records.specs.Limits.{elementLimit, vertexLimit}
+use Rattle.records.specs.Loops.{Whole, WholeTable}
 use Rattle.mesh.specs.Judge.{pairFits, misfit}
-use Rattle.solids.specs.Solids.{Vertex, Face, three, four}
+use Rattle.solids.specs.Solids.{Vertex, Place, Face, three, four, element, faces, edgesOf, ends}
+use Rattle.solids.specs.declared.Solid.{Solid}
+use Rattle.solids.specs.declared.Solid.the-variants.{Tetrahedron, Pyramid, Prism, Hexahedron}
+use Rattle.solids.specs.Fit.{proper, sameSet}
 use Rattle.mesh.specs.declared.fit.cycles.Cycle.{Cycle}
 use Rattle.mesh.specs.declared.fit.cycles.Cycle.the-variants.{Three, Four}
 
@@ -23,6 +26,45 @@ faceOf (Four p q r s) = four (p .0) (q .0) (r .0) (s .0)
 pub record Collected (corners others memory : List ℕ) (r : ℕ) : Type 0 where
   pub few : r ≤ length corners
   pub these : take r memory ≡ keep (λ v. among v others) corners
+
+-- two records that are to be tested
+pub record Pair (a b : List ℕ) : Type 0 where
+  pub first : Whole a
+  pub second : Whole b
+
+-- two proper elements, and the vertices that they have in common, two or more
+pub record Shared (c : List Vertex) (s : Solid) (vs : List Vertex) (s′ : Solid) (ws : List Vertex) : Type 0 where
+  pub mine : T (proper (element s vs))
+  pub theirs : T (proper (element s′ ws))
+  pub these : c ≡ keep (λ v. among v ws) vs
+  pub many : 1 < length c
+
+-- ---- edges by their places
+
+-- an edge of the solid joins the two places
+unfoldable pub joined : Solid → Place → Place → Bool
+joined s p q = some (λ E. sameSet (p ∷ q ∷ []) (ends E)) (gather edgesOf (faces s))
+
+-- the places from 0, which is none
+abbrev pub nine : List Place
+nine = 0 ∷ 1 ∷ 2 ∷ 3 ∷ 4 ∷ 5 ∷ 6 ∷ 7 ∷ 8 ∷ []
+
+-- for each solid and each place a row: 1 at each place that an edge joins it to, 0 elsewhere
+unfoldable pub edgeRows : List (List ℕ)
+edgeRows = gather (λ s. map (λ p. map (λ q. cond (joined s p q) 1 0) nine) nine) (Tetrahedron ∷ Pyramid ∷ Prism ∷ Hexahedron ∷ [])
+
+-- where the rows of a solid start
+abbrev pub firstEdge : Solid → ℕ
+firstEdge Tetrahedron = 0
+firstEdge Pyramid = 9
+firstEdge Prism = 18
+firstEdge Hexahedron = 27
+
+-- two vertices of a proper element
+pub record Ends (u v : Vertex) (s : Solid) (vs : List Vertex) : Type 0 where
+  pub whole : T (proper (element s vs))
+  pub first : T (among u vs)
+  pub second : T (among v vs)
 
 -- ---- the places of a table by their vertices
 
@@ -47,9 +89,14 @@ pub record Filed (t : List ℕ) (m : ℕ) (heads links : List ℕ) : Type 0 wher
   pub first : (v : ℕ) → v ≤ vertexLimit → getD heads v 0 ≡ latest (holds t v) m
   pub next : (x : ℕ) → x < m → 0 < x % width → getD links x 0 ≡ latest (holds t (getD t x 0)) x
 
--- the elements that are marked fit element j
+-- a mark for each element; those that are marked 2 fit element j
 pub record Seen (t : List ℕ) (j : ℕ) (marks : List ℕ) : Type 0 where
-  pub fit : (i : ℕ) → 0 < getD marks i 0 → pairFits t i j ≡ true
+  pub wide : length marks ≡ elementLimit
+  pub fit : (i : ℕ) → 1 < getD marks i 0 → pairFits t i j ≡ true
+
+-- no mark is less than it was
+abbrev pub Grown : List ℕ → List ℕ → Type 0
+Grown old new = (i : ℕ) → getD old i 0 ≤ getD new i 0
 
 -- element j is next, and the places of those before it are filed
 pub record Joining (t : List ℕ) (j : ℕ) (heads links : List ℕ) : Type 0 where
@@ -62,10 +109,13 @@ pub record Meeting (t : List ℕ) (i j : ℕ) (marks : List ℕ) : Type 0 where
   pub early : i < j
   pub seen : Seen t j marks
 
--- the verdict of a pair, and the marks after it
-pub record Met (t : List ℕ) (i j : ℕ) (marks : List ℕ) (r : Bool) : Type 0 where
-  pub verdict : r ≡ pairFits t i j
-  pub seen : Seen t j marks
+-- element i is marked, and fits where it was marked before; or it does not fit
+pub record Met (t : List ℕ) (i j : ℕ) (old new : List ℕ) (r : Bool) : Type 0 where
+  pub seen : Seen t j new
+  pub grown : Grown old new
+  pub marked : r ≡ true → 0 < getD new i 0
+  pub again : r ≡ true → 0 < getD old i 0 → pairFits t i j ≡ true
+  pub bad : r ≡ false → pairFits t i j ≡ false
 
 -- the chain of a vertex is to be walked
 pub record Walking (t : List ℕ) (j v : ℕ) (heads links marks : List ℕ) : Type 0 where
@@ -74,8 +124,10 @@ pub record Walking (t : List ℕ) (j v : ℕ) (heads links marks : List ℕ) : T
   pub filed : Filed t (width * j) heads links
   pub seen : Seen t j marks
 
--- each element before j that holds the vertex fits j, or j has a misfit
-pub record Walked (t : List ℕ) (j v : ℕ) (marks : List ℕ) (r : Bool) : Type 0 where
-  pub seen : Seen t j marks
-  pub fit : r ≡ true → (x : ℕ) → x < width * j → holds t v x ≡ true → pairFits t (x / width) j ≡ true
+-- each element before j that holds the vertex is marked, and fits where it was marked before; or j has a misfit
+pub record Walked (t : List ℕ) (j v : ℕ) (old new : List ℕ) (r : Bool) : Type 0 where
+  pub seen : Seen t j new
+  pub grown : Grown old new
+  pub marked : r ≡ true → (x : ℕ) → x < width * j → holds t v x ≡ true → 0 < getD new (x / width) 0
+  pub again : r ≡ true → (x : ℕ) → x < width * j → holds t v x ≡ true → 0 < getD old (x / width) 0 → pairFits t (x / width) j ≡ true
   pub bad : r ≡ false → 0 < misfit t j

@@ -1,16 +1,20 @@
 // Whether the elements of a table fit together: the search for the first pair that does not fit. The verdict of a pair stands in pair.rt.
 ghost use mathlib.Core.Path.{_≡_};
+ghost use Prim.Native.Nat.{_+_};
+ghost use Rattle.records.specs.Loops.{WholeTable};
 ghost use Rattle.mesh.specs.Judge.{misfit, badElement};
 ghost use Rattle.mesh.specs.FitLoops.{Numbered};
 
 mod chains;
 mod corners;
 mod cycles;
+mod edges;
 mod pair;
 mod sets;
 
 // The number, from 1, of the lowest i below j that does not fit j, or 0.
 pub fn misfit_of(table: &[u16], j: usize) -> usize
+    requires { ⌜ WholeTable (now table) (j + 1) ⌝ }
     ensures { λ r. ⌜ r ≡ misfit (now (table .entry)) j ⌝ }
 {
     let element = records::record_at(table, j);

@@ -3,6 +3,7 @@ ghost use mathlib.Core.Path.{_≡_};
 ghost use Prim.Native.Nat.{_<_, pred};
 ghost use Rattle.faults.specs.Refusals.{refuse, refusePair};
 ghost use Rattle.records.specs.Record.{recordFinding, recordAt};
+ghost use Rattle.records.specs.Loops.{WholeTable};
 ghost use Rattle.mesh.specs.Judge.{badRecord, isFault, faultIn, misfit};
 ghost use Rattle.mesh.specs.FitLoops.{Numbered};
 ghost use Rattle.mesh.specs.JudgeLoops.{answerFrom, firstRefusal, roomAnswer, pairsJudged, RecordsJudging, Judging};
@@ -68,7 +69,7 @@ fn record_refusal(table: &[u16], limit: usize, k: usize) -> Refusal
 
 // The refusal of the element with the number j, from 1, and its lowest misfit.
 fn pair_refusal(table: &[u16], j: usize) -> Refusal
-    requires { ⌜ 0 < j ⌝ }
+    requires { ⌜ (0 < j) × WholeTable (now table) j ⌝ }
     ensures { λ r. ⌜ r ≡ refusePair j (misfit (now (table .entry)) (pred j)) ⌝ }
 {
     let i = fit::misfit_of(table, j - 1);

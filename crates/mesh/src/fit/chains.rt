@@ -18,22 +18,26 @@ fn wide(number: u16) -> usize
     number as usize
 }
 
-// Elements i and j fit; a pair that was seen to fit is not tested again.
-fn fits_once(table: &[u16], i: usize, j: usize, seen: &mut [u8; 1024]) -> bool
+// Meets element i at one more vertex of element j: 1 marks that they met once, 2 that they fit, which is tested when they meet again.
+fn fits_again(table: &[u16], i: usize, j: usize, seen: &mut [u8; 1024]) -> bool
     requires { ⌜ Meeting (now table) i j (now seen) ⌝ }
-    ensures { λ r. ⌜ Met (now (table .entry)) i j (now (seen .exit)) r ⌝ }
+    ensures { λ r. ⌜ Met (now (table .entry)) i j (now (seen .entry)) (now (seen .exit)) r ⌝ }
 {
-    if 0 < seen[i] {
+    if seen[i] == 0 {
+        seen[i] = 1;
+        return true;
+    }
+    if 1 < seen[i] {
         return true;
     }
     if !pair::pair_fits(records::record_at(table, i), records::record_at(table, j)) {
         return false;
     }
-    seen[i] = 1;
+    seen[i] = 2;
     true
 }
 
-// Element j fits each element before it that holds the vertex.
+// Meets each element before j that holds the vertex; false where one of them does not fit j.
 fn chain_fits(
     table: &[u16],
     j: usize,
@@ -43,12 +47,12 @@ fn chain_fits(
     seen: &mut [u8; 1024],
 ) -> bool
     requires { ⌜ Walking (now table) j vertex (now heads) (now links) (now seen) ⌝ }
-    ensures { λ r. ⌜ Walked (now (table .entry)) j vertex (now (seen .exit)) r ⌝ }
+    ensures { λ r. ⌜ Walked (now (table .entry)) j vertex (now (seen .entry)) (now (seen .exit)) r ⌝ }
 {
     let v = wide(vertex);
     let mut x = wide(heads[v]);
     while 0 < x {
-        if !fits_once(table, x / WIDTH, j, seen) {
+        if !fits_again(table, x / WIDTH, j, seen) {
             return false;
         }
         x = wide(links[x]);

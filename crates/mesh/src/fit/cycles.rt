@@ -1,9 +1,7 @@
 // Faces of an element, in vertex numbers.
 ghost use mathlib.Core.Path.{_≡_};
-ghost use mathlib.Core.List.{[], _∷_};
 ghost use lib.ListN.{getD};
-ghost use Rattle.laws.specs.Words.{some};
-ghost use Rattle.solids.specs.Solids.{at, element, three, ofFace, edgesOf, ends, facesOf};
+ghost use Rattle.solids.specs.Solids.{at, element, three, ofFace, facesOf};
 ghost use Rattle.solids.specs.Rotations.{eqFace, sameFace};
 ghost use Rattle.solids.specs.Fit.{sameSet, backFace};
 ghost use Rattle.mesh.specs.FitLoops.{faceOf};
@@ -129,43 +127,6 @@ pub fn has_corners(vertices: &[u16], cycle: Cycle) -> bool
         Cycle::Four(p, q, r, s) => {
             let corners = [p.0, q.0, r.0, s.0];
             sets::same_set(vertices, &corners)
-        }
-    }
-}
-
-// The vertices are the two ends.
-fn are_ends(vertices: &[u16], p: Vertex, q: Vertex) -> bool
-    ensures { λ r. ⌜ r ≡ sameSet (now (vertices .entry)) (p .0 ∷ q .0 ∷ []) ⌝ }
-{
-    let ends = [p.0, q.0];
-    sets::same_set(vertices, &ends)
-}
-
-// The vertices are the two ends of a side of the face.
-pub fn has_side(vertices: &[u16], cycle: Cycle) -> bool
-    ensures { λ r. ⌜ r ≡ some (λ E. sameSet (now (vertices .entry)) (ends E)) (edgesOf (faceOf cycle)) ⌝ }
-{
-    match cycle {
-        Cycle::Three(p, q, r) => {
-            if are_ends(vertices, p, q) {
-                return true;
-            }
-            if are_ends(vertices, q, r) {
-                return true;
-            }
-            are_ends(vertices, r, p)
-        }
-        Cycle::Four(p, q, r, s) => {
-            if are_ends(vertices, p, q) {
-                return true;
-            }
-            if are_ends(vertices, q, r) {
-                return true;
-            }
-            if are_ends(vertices, r, s) {
-                return true;
-            }
-            are_ends(vertices, s, p)
         }
     }
 }

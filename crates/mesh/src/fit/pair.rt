@@ -6,29 +6,15 @@ ghost use Rattle.solids.specs.Solids.{element, ofFace, facesOf};
 ghost use Rattle.solids.specs.Rotations.{sameFace};
 ghost use Rattle.solids.specs.Fit.{sameSet, hasEdge, backFace, shareFace, fits};
 ghost use Rattle.records.specs.Record.{elementOf};
-ghost use Rattle.mesh.specs.FitLoops.{faceOf};
+ghost use Rattle.mesh.specs.FitLoops.{faceOf, Pair, Shared};
 use crate::fit::corners;
 use crate::fit::cycles;
 use crate::fit::cycles::Cycle;
+use crate::fit::edges;
 use crate::fit::sets;
 use solids::Solid;
 
-// The vertices are the two ends of an edge of the element.
-fn has_edge(vertices: &[u16], solid: Solid, corners: &[u16]) -> bool
-    ensures { λ r. ⌜ r ≡ hasEdge (now (vertices .entry)) (element solid (now (corners .entry))) ⌝ }
-{
-    let n = solids::face_count(solid);
-    let mut i = 0;
-    while i < n {
-        if cycles::has_side(vertices, cycles::face_of(solid, corners, i)) {
-            return true;
-        }
-        i += 1;
-    }
-    false
-}
-
-// The vertices are the two ends of an edge of both elements.
+// The common vertices of two elements are the two ends of an edge of both.
 fn share_edge(
     vertices: &[u16],
     solid: Solid,
@@ -36,10 +22,16 @@ fn share_edge(
     neighbour: Solid,
     others: &[u16],
 ) -> bool
+    requires { ⌜ Shared (now vertices) solid (now corners) neighbour (now others) ⌝ }
     ensures { λ r. ⌜ r ≡ (hasEdge (now (vertices .entry)) (element solid (now (corners .entry))) && hasEdge (now (vertices .entry)) (element neighbour (now (others .entry)))) ⌝ }
 {
-    if has_edge(vertices, solid, corners) {
-        return has_edge(vertices, neighbour, others);
+    if 2 < vertices.len() {
+        return false;
+    }
+    let u = vertices[0];
+    let v = vertices[1];
+    if edges::has_edge(u, v, solid, corners) {
+        return edges::has_edge(u, v, neighbour, others);
     }
     false
 }
@@ -97,6 +89,7 @@ fn share_face(
 
 // Two elements fit.
 pub fn pair_fits(a: &[u16], b: &[u16]) -> bool
+    requires { ⌜ Pair (now a) (now b) ⌝ }
     ensures { λ r. ⌜ r ≡ fits (elementOf (now (a .entry))) (elementOf (now (b .entry))) ⌝ }
 {
     let corners_a = corners::corners_of(a);

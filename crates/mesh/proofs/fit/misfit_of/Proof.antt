@@ -1,26 +1,20 @@
 -- `mesh::fit::misfit_of` meets its contract. The loop's invariant: every element before i fits element j. The measure is how many are left below j.
 -- Assumes nothing.
 use Prim.Native.Nat.{ℕ, _-_}
-use mathlib.Core.Path.{_≡_, sym, ap, ap₂, _∙_}
+use mathlib.Core.Path.{sym, ap, _∙_}
 use mathlib.Core.Bool.{Bool, not}
 use mathlib.Core.List.{List}
 use borrow.Author.Needs.{needs}
 use denote.Ref.{now}
-use Rattle.solids.specs.Fit.{fits}
-use Rattle.records.specs.Record.{recordAt, elementAt, elementOf}
 use Rattle.mesh.specs.Judge.{pairFits, misfit}
 use Rattle.laws.proofs.PassLaws.{Failed, failed-start, failed-here, failed-next, failed-end}
+use Rattle.mesh.proofs.ChainLaws.{pair-whole, pair-verdict}
 use Rattle.mesh.proofs.fit.misfit_of.Statement.{statement}
 use Rattle.mesh.proofs.fit.misfit_of.Tie as tie
 
 -- elements i and j do not fit
 abbrev bad : List ℕ → ℕ → ℕ → Bool
 bad t j i = not (pairFits t i j)
-
--- the verdict of two records is that of the pair
-tested : (t : List ℕ) (i j : ℕ) {a b : List ℕ} {r : Bool} → a ≡ recordAt t i → b ≡ recordAt t j → r ≡ fits (elementOf a) (elementOf b) → not r ≡ bad t j i
-unfolding pairFits elementAt
-tested t i j p q e = ap not (e ∙ ap₂ {C = Bool} (λ x y. fits (elementOf x) (elementOf y)) p q)
 
 abbrev Inv-loop : tie.InvT-loop
 Inv-loop table j element i₀ i = Failed (bad table j) j i
@@ -38,7 +32,9 @@ record-at-requires-2 : tie.Need-record-at-requires-2 Inv-loop μ-loop
 record-at-requires-2 c κs = search needs
 
 pair-fits-requires : tie.Need-pair-fits-requires Inv-loop μ-loop
-pair-fits-requires c κs = search needs
+pair-fits-requires c κs =
+    let a = c .before .before .before .before .before .args in
+    pair-whole (now (a .table)) (c .before .before .loop .i) (a .j) (c .before .before .before .before .before .pre) (c .before .loop-test .taken) (c .record-at2 .ensures) (c .before .before .before .record-at .ensures)
 
 add-result : tie.Need-add-result Inv-loop μ-loop
 add-result c = search needs
@@ -48,7 +44,7 @@ unfolding misfit
 returns c =
     let a = c .before .before .before .before .before .before .before .args in
     failed-here (bad (now (a .table)) (a .j)) (c .before .before .before .before .loop .inv) (c .before .before .before .loop-test .taken)
-    (sym (tested (now (a .table)) (c .before .before .before .before .loop .i) (a .j) (c .before .before .record-at2 .ensures) (c .before .before .before .before .before .record-at .ensures) (c .before .pair-fits .ensures)) ∙ c .if1 .taken)
+    (sym (ap not (pair-verdict (now (a .table)) (c .before .before .before .before .loop .i) (a .j) (c .before .before .record-at2 .ensures) (c .before .before .before .before .before .record-at .ensures) (c .before .pair-fits .ensures))) ∙ c .if1 .taken)
 
 add-i : tie.Need-add-i Inv-loop μ-loop
 add-i c = search needs
@@ -60,7 +56,7 @@ loop-again : tie.Need-loop-again Inv-loop μ-loop
 loop-again c =
     let a = c .before .before .before .before .before .before .before .args in
     failed-next (bad (now (a .table)) (a .j)) (c .before .before .before .before .loop .inv) (c .before .before .before .loop-test .taken)
-    (sym (tested (now (a .table)) (c .before .before .before .before .loop .i) (a .j) (c .before .before .record-at2 .ensures) (c .before .before .before .before .before .record-at .ensures) (c .before .pair-fits .ensures)) ∙ c .if1 .left)
+    (sym (ap not (pair-verdict (now (a .table)) (c .before .before .before .before .loop .i) (a .j) (c .before .before .record-at2 .ensures) (c .before .before .before .before .before .record-at .ensures) (c .before .pair-fits .ensures))) ∙ c .if1 .left)
 
 returns-2 : tie.Need-returns-2 Inv-loop μ-loop
 unfolding misfit

@@ -2,13 +2,12 @@
 -- Assumes nothing.
 use Prim.Native.Nat.{ℕ, _+_, _*_, _-_, _≤_, _<_, _%_}
 use native.Mathlib.Omega.{arith}
-use mathlib.Core.Path.{_≡_, sym, subst}
+use mathlib.Core.Path.{_≡_, subst}
 use mathlib.Core.List.{List}
 use borrow.Author.Needs.{needs}
 use denote.Ref.{now}
-use lib.ListN.{length, getD, set}
+use lib.ListN.{getD, set}
 use Rattle.records.specs.Record.{width}
-use Rattle.records.specs.Loops.{WholeTable}
 use Rattle.mesh.specs.FitLoops.{Numbered, Filed}
 use Rattle.mesh.proofs.ChainLaws.{filed-kind, filed-more}
 use Rattle.mesh.proofs.fit.chains.file_places.Statement.{statement}

@@ -1,8 +1,9 @@
--- `mesh::fit::chains::fits_all` meets its contract. The loop's invariant: the elements that hold a vertex of the places before p fit j.
+-- `mesh::fit::chains::fits_all` meets its contract. The loop's invariant: the elements that hold a vertex of the places before p are marked, and those that hold two fit j.
 -- The measure is how many places are left. Assumes nothing.
 use Prim.Native.Nat.{ℕ, _+_, _*_, _/_, _-_, _≤_, _<_}
+use native.Mathlib.Nat.{le-trans}
 use native.Mathlib.Omega.{arith}
-use mathlib.Core.Path.{_≡_, refl, sym, ap, _∙_}
+use mathlib.Core.Path.{_≡_, refl, ap, _∙_}
 use mathlib.Core.Bool.{Bool, true, false, not}
 use mathlib.Core.List.{List}
 use borrow.Author.Needs.{needs}
@@ -14,7 +15,7 @@ use Rattle.records.specs.Record.{width, kindOf, recordAt}
 use Rattle.records.specs.Loops.{WholeTable}
 use Rattle.records.proofs.RecordLaws.{kind-small}
 use Rattle.mesh.specs.Judge.{pairFits, misfit}
-use Rattle.mesh.specs.FitLoops.{Numbered, holds, Seen, Walked}
+use Rattle.mesh.specs.FitLoops.{holds, Seen, Walked}
 use Rattle.mesh.proofs.ChainLaws.{seen-start, misfit-none}
 use Rattle.mesh.proofs.fit.chains.fits_all.Statement.{statement}
 use Rattle.mesh.proofs.fit.chains.fits_all.Tie as tie
@@ -22,20 +23,34 @@ use Rattle.mesh.proofs.fit.chains.fits_all.Tie as tie
 record Passed (t : List ℕ) (j p : ℕ) (marks : List ℕ) : Type 0 where
   high : 0 < p
   seen : Seen t j marks
-  done : (q : ℕ) → 0 < q → q < p → (y : ℕ) → y < width * j → holds t (getD t (width * j + q) 0) y ≡ true → pairFits t (y / width) j ≡ true
+  once : (q : ℕ) → 0 < q → q < p → (x : ℕ) → x < width * j → holds t (getD t (width * j + q) 0) x ≡ true → 0 < getD marks (x / width) 0
+  twice : (q r : ℕ) → 0 < q → q < r → r < p → (x y : ℕ) → x < width * j → y < width * j → x / width ≡ y / width
+      → holds t (getD t (width * j + q) 0) x ≡ true → holds t (getD t (width * j + r) 0) y ≡ true → pairFits t (y / width) j ≡ true
 
-passed-more : {t : List ℕ} {j p : ℕ} {old new : List ℕ} {r : Bool} → Passed t j p old → Walked t j (getD t (width * j + p) 0) new r → r ≡ true → Passed t j (p + 1) new
-passed-more {t} {j} {p} w k e = record { high = omega arith; seen = k .seen; done = λ q h l. go q h l (eqb q p) refl }
+passed-more : {t : List ℕ} {j p : ℕ} {old new : List ℕ} {b : Bool} → Passed t j p old → Walked t j (getD t (width * j + p) 0) old new b → b ≡ true → Passed t j (p + 1) new
+passed-more {t} {j} {p} {old} {new} w k e = record {
+  high = omega arith;
+  seen = k .seen;
+  once = λ q h l. one q h l (eqb q p) refl;
+  twice = λ q r h l m. two q r h l m (eqb r p) refl;
+}
   where
-    go : (q : ℕ) → 0 < q → q < p + 1 → (b : Bool) → eqb q p ≡ b → (y : ℕ) → y < width * j → holds t (getD t (width * j + q) 0) y ≡ true → pairFits t (y / width) j ≡ true
-    go q h l true z y m f = k .fit e y m (rw (eqb-true q p z) at f)
-    go q h l false z y m f = let n = eqb-false q p z in w .done q h (omega arith) y m f
+    one : (q : ℕ) → 0 < q → q < p + 1 → (d : Bool) → eqb q p ≡ d → (x : ℕ) → x < width * j → holds t (getD t (width * j + q) 0) x ≡ true → 0 < getD new (x / width) 0
+    one q h l true z x m f = k .marked e x m (rw (eqb-true q p z) at f)
+    one q h l false z x m f = let n = eqb-false q p z in le-trans (w .once q h (omega arith) x m f) (k .grown (x / width))
 
-misfit-here : {t : List ℕ} {j v : ℕ} {marks : List ℕ} {r : Bool} → Walked t j v marks r → r ≡ false → false ≡ not (ltb 0 (misfit t j))
+    two : (q r : ℕ) → 0 < q → q < r → r < p + 1 → (d : Bool) → eqb r p ≡ d → (x y : ℕ) → x < width * j → y < width * j → x / width ≡ y / width
+        → holds t (getD t (width * j + q) 0) x ≡ true → holds t (getD t (width * j + r) 0) y ≡ true → pairFits t (y / width) j ≡ true
+    two q r h l m true z x y a b o f g =
+        let u = eqb-true r p z in
+        k .again e y b (rw u at g) (rw o at (w .once q h (omega arith) x a f))
+    two q r h l m false z x y a b o f g = let n = eqb-false r p z in w .twice q r h l (omega arith) x y a b o f g
+
+misfit-here : {t : List ℕ} {j v : ℕ} {old new : List ℕ} {r : Bool} → Walked t j v old new r → r ≡ false → false ≡ not (ltb 0 (misfit t j))
 misfit-here {t} {j} k e = rw (lt-ltb 0 (misfit t j) (k .bad e))
 
 none-left : {t : List ℕ} {j p k : ℕ} {marks : List ℕ} → Passed t j p marks → WholeTable t (j + 1) → k ≡ kindOf (recordAt t j) → k < p → true ≡ not (ltb 0 (misfit t j))
-none-left {t} {j} {p} w whole e h = rw (misfit-none t j whole (λ q l m. w .done q l (omega arith)))
+none-left {t} {j} {p} w whole e h = rw (misfit-none t j whole (λ q r l m n. w .twice q r l m (omega arith)))
 
 -- the kind of element j, which is at most 8
 kind-here : (t : List ℕ) (j : ℕ) {k f : ℕ} {r : List ℕ} → k ≡ f → f ≡ kindOf r → r ≡ recordAt t j → k ≡ kindOf (recordAt t j)
@@ -65,7 +80,7 @@ mul-start c = omega (arith, c .before .before .before .before .pre .table .table
 loop-holds : tie.Need-loop-holds Inv-loop μ-loop
 loop-holds c =
     let a = c .before .before .before .before .args in
-    record { high = omega arith; seen = seen-start (now (a .table)) (a .j); done = λ q h l. absurd (omega arith) }
+    record { high = omega arith; seen = seen-start (now (a .table)) (a .j); once = λ q h l. absurd (omega arith); twice = λ q r h l m. absurd (omega arith) }
 
 add-x : tie.Need-add-x Inv-loop μ-loop
 add-x c =

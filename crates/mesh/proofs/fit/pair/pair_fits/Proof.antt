@@ -9,12 +9,15 @@ use mathlib.Core.List.{List}
 use borrow.Author.Needs.{needs}
 use borrow.Author.Tests.{le-leb, lt-leb}
 use denote.Ref.{now}
+use lib.Dec.{T}
 use lib.ListN.{length, take, length-take}
 use lib.Seq.{length-take-le}
 use Rattle.solids.specs.declared.Solid.{Solid}
 use Rattle.solids.specs.Solids.{Element, element}
-use Rattle.solids.specs.Fit.{common, hasEdge, shareFace, fits}
+use Rattle.solids.specs.Fit.{proper, common, hasEdge, shareFace, fits}
 use Rattle.records.specs.Record.{kindOf, numbersOf, usedOf, solidOf, elementOf}
+use Rattle.records.specs.Loops.{Whole}
+use Rattle.records.proofs.Theorems.{whole-proper}
 use Rattle.mesh.specs.FitLoops.{Collected}
 use Rattle.mesh.proofs.fit.pair.pair_fits.Statement.{statement}
 use Rattle.mesh.proofs.fit.pair.pair_fits.Tie as tie
@@ -28,6 +31,10 @@ used-few r e = rw (e, length-take (kindOf r) (numbersOf r), length-take 8) (omeg
 is-element : (r : List ℕ) {s : Solid} {k : ℕ} {vs : List ℕ} → k ≡ kindOf r → s ≡ solidOf k → vs ≡ usedOf r → element s vs ≡ elementOf r
 unfolding elementOf
 is-element r a b e = cc
+
+-- the element of a whole record is proper
+is-proper : (r : List ℕ) {e : Element} → Whole r → e ≡ elementOf r → T (proper e)
+is-proper r w e = rw e (whole-proper r w)
 
 -- the common vertices stand in the memory, which has room for eight
 module _ (r : List ℕ) {vs ws m : List ℕ} {n : ℕ} (e : vs ≡ usedOf r) (long : length m ≡ 8) (w : Collected vs ws m n) where
@@ -89,7 +96,16 @@ slice-aggregate-common : tie.Need-slice-aggregate-common
 slice-aggregate-common c = sym (size (now (c .before .before .before .before .before .before .before .before .before .before .before .before .before .args .a)) (c .before .before .before .before .before .before .before .before .before .before .corners-of .ensures) (c .before .before .before .before .before .before .before .common-of .kept .1 .1 .0) (c .before .before .before .before .before .before .before .common-of .ensures))
 
 share-edge-requires : tie.Need-share-edge-requires
-share-edge-requires c κs = search needs
+share-edge-requires c κs =
+    let a = c .before .before .before .before .before .before .before .before .before .before .before .before .before .args in
+    let u = c .before .before .before .before .before .before .before .before .before .before .corners-of .ensures in
+    let f = c .before .before .before .before .before .before .before .common-of in
+    record {
+      mine = is-proper (now (a .a)) (c .before .before .before .before .before .before .before .before .before .before .before .before .before .pre .first) (is-element (now (a .a)) (c .before .before .before .before .kind-of .ensures) (c .before .before .before .solid-of .ensures) u);
+      theirs = is-proper (now (a .b)) (c .before .before .before .before .before .before .before .before .before .before .before .before .before .pre .second) (is-element (now (a .b)) (c .before .before .kind-of2 .ensures) (c .before .solid-of2 .ensures) (c .before .before .before .before .before .before .before .before .before .corners-of2 .ensures));
+      these = f .ensures .these;
+      many = rw (size (now (a .a)) u (f .kept .1 .1 .0) (f .ensures)) (c .before .before .before .before .before .if1 .left);
+    }
 
 returns-2 : tie.Need-returns-2
 returns-2 c =
