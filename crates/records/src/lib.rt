@@ -9,7 +9,7 @@ use solids::Solid;
 use solids::Vertex;
 
 // How many numbers a record has, and how many of them are vertex numbers.
-const WIDTH: usize = 9;
+pub const WIDTH: usize = 9;
 
 const NUMBERS: usize = 8;
 

@@ -7,9 +7,7 @@ ghost use Rattle.records.specs.Record.{width};
 ghost use Rattle.mesh.specs.Judge.{misfit};
 ghost use Rattle.mesh.specs.FitLoops.{Filed, Meeting, Met, Walking, Walked, Joining};
 use crate::fit::pair;
-
-// How many numbers a record has.
-const WIDTH: usize = 9;
+use records::WIDTH;
 
 // A number of a table as an index.
 fn wide(number: u16) -> usize
