@@ -1,5 +1,5 @@
 -- The element record: nine numbers, its kind (4, 5, 6 or 8, its corner count), then eight vertex numbers, unused ones zero.
--- Other rooms name the width and take a record apart by these names; the search of mesh by chains of places also knows that the kind stands first.
+-- Judging and cutting take a record apart by these names.
 use mathlib.Core.Bool.{Bool, cond, not, _&&_, _||_}
 use mathlib.Core.List.{List, [], _∷_, _++_}
 use Prim.Native.Nat.{ℕ, zero, suc, _*_, _/_}
