@@ -1,27 +1,40 @@
 -- The list of rotations is complete: whatever maps faces to faces and keeps their direction is in it. A search that antt computes,
--- place by place, left off as soon as a whole face is mapped to none.
+-- place by place, left off as soon as the places given so far take a face to none.
 -- Assumes nothing.
 use mathlib.Core.Path.{_≡_, refl, sym, subst}
-use mathlib.Core.Bool.{Bool, true, false, not, _&&_}
+use mathlib.Core.Bool.{Bool, true, false, not, _&&_, _||_}
 use mathlib.Core.List.{List, [], _∷_, _++_, append-nil, append-assoc, List·Memᴰ, Memᴰ·cast}
+use mathlib.Core.Logic.{_⊎_, inl, inr}
 use Prim.Native.Nat.{ℕ, zero, suc}
 use native.Mathlib.Omega.{arith}
 use lib.Dec.{eqb, leb, T, eqb→eq, leb→le, ltb→lt}
 use lib.ListN.{length, List·getD-append}
 use Rattle.laws.specs.Words.{every, some, distinct}
-use Rattle.solids.specs.Solids.{Solid, tetrahedron, pyramid, prism, hexahedron, Face, corners, faces, at, onFace, ofFace}
-use Rattle.solids.specs.Rotations.{sameFace, isReordering, keepsFaces, isRotation, rotations}
-use Rattle.laws.proofs.TestLaws.{and-left, and-right, below, at-below}
+use Rattle.solids.specs.Solids.{Solid, tetrahedron, pyramid, prism, hexahedron, Face, three, four, corners, faces, at, onFace}
+use Rattle.solids.specs.Rotations.{eqFace, sameFace, isReordering, keepsFaces, isRotation, rotations}
+use Rattle.laws.proofs.TestLaws.{and-left, and-right, and-both, or-cases, or-left, or-right, below, at-below}
 use Rattle.laws.proofs.EveryLaws.{some-at, every-implies}
 use Rattle.solids.proofs.NumberingLaws.{inside}
-use Rattle.solids.proofs.RelistedLaws.{face-agree}
 
--- a face whose places are all given goes to a face (an `elim`, so that the rest is computed only where they are given)
-abbrev goesOn : Solid → List ℕ → Face ℕ → Bool
-goesOn s u F = elim (every (inside (length u)) (ofFace F)) [ true ↦ some (sameFace (onFace (at u) F)) (faces s) | false ↦ true ]
+-- a place that is given goes to q; one that is not may go anywhere (an `elim`, so that the rest is computed only where it is given)
+abbrev goesTo : List ℕ → ℕ → ℕ → Bool
+goesTo u p q = elim (inside (length u) p) [ true ↦ eqb (at u p) q | false ↦ true ]
+
+-- each given place of a face goes to its corner of the other
+abbrev alikeOn : List ℕ → Face ℕ → Face ℕ → Bool
+alikeOn u (three a b c) (three p q r) = goesTo u a p && (goesTo u b q && goesTo u c r)
+alikeOn u (three a b c) (four p q r s) = false
+alikeOn u (four a b c d) (three p q r) = false
+alikeOn u (four a b c d) (four p q r s) = goesTo u a p && (goesTo u b q && (goesTo u c r && goesTo u d s))
+
+-- the same, the cycle read from any of its corners
+abbrev goesOn : List ℕ → Face ℕ → Face ℕ → Bool
+goesOn u (three a b c) F = alikeOn u (three a b c) F || (alikeOn u (three b c a) F || alikeOn u (three c a b) F)
+goesOn u (four a b c d) F =
+    alikeOn u (four a b c d) F || (alikeOn u (four b c d a) F || (alikeOn u (four c d a b) F || alikeOn u (four d a b c) F))
 
 abbrev keepOn : Solid → List ℕ → Bool
-keepOn s u = every (goesOn s u) (faces s)
+keepOn s u = every (λ F. some (goesOn u F) (faces s)) (faces s)
 
 abbrev eqList : List ℕ → List ℕ → Bool
 eqList [] [] = true
@@ -61,17 +74,85 @@ at-append : (u v : List ℕ) (p : ℕ) → T (inside (length u) p) → at (u ++ 
 at-append u v zero h = absurd h
 at-append u v (suc i) h = List·getD-append u v 0 i (ltb→lt i (length u) h)
 
-kept : (s : Solid) (u v : List ℕ) → T (every (λ F. some (sameFace (onFace (at (u ++ v)) F)) (faces s)) (faces s)) → T (keepOn s u)
-kept s u v h = every-implies (λ F. some (sameFace (onFace (at (u ++ v)) F)) (faces s)) (goesOn s u) one (faces s) h
+-- from two tests to two others
+and-through : (a b c d : Bool) → (T a → T c) → (T b → T d) → T (a && b) → T (c && d)
+and-through a b c d f g h = and-both c d (f (and-left a b h)) (g (and-right a b h))
+
+or-through : (a b c d : Bool) → (T a → T c) → (T b → T d) → T (a || b) → T (c || d)
+or-through a b c d f g h = go (or-cases a b h)
   where
-    one : (F : Face ℕ) → T (some (sameFace (onFace (at (u ++ v)) F)) (faces s)) → T (goesOn s u F)
-    one F t = go (every (inside (length u)) (ofFace F)) refl
-      where
-        go : (b : Bool) → every (inside (length u)) (ofFace F) ≡ b → T (elim b [ true ↦ some (sameFace (onFace (at u) F)) (faces s) | false ↦ true ])
-        go true e =
-            subst (λ (X : Face ℕ). T (some (sameFace X) (faces s)))
-            (face-agree (at (u ++ v)) (at u) (inside (length u)) (at-append u v) F (subst T (sym e) tt)) t
-        go false e = tt
+    go : T a ⊎ T b → T (c || d)
+    go (inl x) = or-left c d (f x)
+    go (inr y) = or-right c d (g y)
+
+some-through : (P Q : Face ℕ → Bool) → ((F : Face ℕ) → T (P F) → T (Q F)) → (fs : List (Face ℕ)) → T (some P fs) → T (some Q fs)
+some-through P Q f [] h = absurd h
+some-through P Q f (F ∷ fs) h = or-through (P F) (some P fs) (Q F) (some Q fs) (f F) (some-through P Q f fs) h
+
+module _ (u v : List ℕ) where
+  goes : (p q : ℕ) → T (eqb (at (u ++ v) p) q) → T (goesTo u p q)
+  goes p q h = go (inside (length u) p) refl
+    where
+      go : (b : Bool) → inside (length u) p ≡ b → T (elim b [ true ↦ eqb (at u p) q | false ↦ true ])
+      go true e = subst (λ (x : ℕ). T (eqb x q)) (at-append u v p (subst T (sym e) tt)) h
+      go false e = tt
+
+  -- the test of a place's image, and of that of a place that is given
+  abbrev is : ℕ → ℕ → Bool
+  is p q = eqb (at (u ++ v) p) q
+
+  abbrev to : ℕ → ℕ → Bool
+  to p q = goesTo u p q
+
+  alike : (F G : Face ℕ) → T (eqFace (onFace (at (u ++ v)) F) G) → T (alikeOn u F G)
+  alike (three a b c) (three p q r) h =
+      and-through (is a p) (is b q && is c r) (to a p) (to b q && to c r) (goes a p) (and-through (is b q) (is c r) (to b q) (to c r) (goes b q) (goes c r)) h
+  alike (three a b c) (four p q r s) h = h
+  alike (four a b c d) (three p q r) h = h
+  alike (four a b c d) (four p q r s) h =
+      and-through (is a p) (is b q && (is c r && is d s)) (to a p) (to b q && (to c r && to d s)) (goes a p)
+      (and-through (is b q) (is c r && is d s) (to b q) (to c r && to d s) (goes b q) (and-through (is c r) (is d s) (to c r) (to d s) (goes c r) (goes d s))) h
+
+  abbrev same : Face ℕ → Face ℕ → Bool
+  same F G = eqFace (onFace (at (u ++ v)) F) G
+
+  abbrev near : Face ℕ → Face ℕ → Bool
+  near F G = alikeOn u F G
+
+  goes-on : (F G : Face ℕ) → T (sameFace (onFace (at (u ++ v)) F) G) → T (goesOn u F G)
+  goes-on (three a b c) G h =
+      or-through (same x G) (same y G || same z G) (near x G) (near y G || near z G) (alike x G)
+      (or-through (same y G) (same z G) (near y G) (near z G) (alike y G) (alike z G)) h
+    where
+      x : Face ℕ
+      x = three a b c
+
+      y : Face ℕ
+      y = three b c a
+
+      z : Face ℕ
+      z = three c a b
+  goes-on (four a b c d) G h =
+      or-through (same w G) (same x G || (same y G || same z G)) (near w G) (near x G || (near y G || near z G)) (alike w G)
+      (or-through (same x G) (same y G || same z G) (near x G) (near y G || near z G) (alike x G)
+      (or-through (same y G) (same z G) (near y G) (near z G) (alike y G) (alike z G))) h
+    where
+      w : Face ℕ
+      w = four a b c d
+
+      x : Face ℕ
+      x = four b c d a
+
+      y : Face ℕ
+      y = four c d a b
+
+      z : Face ℕ
+      z = four d a b c
+
+kept : (s : Solid) (u v : List ℕ) → T (every (λ F. some (sameFace (onFace (at (u ++ v)) F)) (faces s)) (faces s)) → T (keepOn s u)
+kept s u v h =
+    every-implies (λ F. some (sameFace (onFace (at (u ++ v)) F)) (faces s)) (λ F. some (goesOn u F) (faces s))
+    (λ F t. some-through (sameFace (onFace (at (u ++ v)) F)) (goesOn u F) (goes-on u v F) (faces s) t) (faces s) h
 
 abbrev inRange : ℕ → ℕ → Bool
 inRange n p = leb 1 p && leb p n

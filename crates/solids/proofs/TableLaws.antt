@@ -1,15 +1,17 @@
 -- The tables of the code are the page's: an entry of the table of faces is a place of a face, an entry of the table of cuts a place of a row,
 -- and outside both there is none. Every place is at most 8.
 -- Assumes nothing.
-use mathlib.Core.Path.{_≡_, refl, ap}
+use mathlib.Core.Path.{_≡_, refl, sym, ap, _∙_}
 use mathlib.Core.Bool.{Bool, _&&_}
-use mathlib.Core.List.{List, [], _∷_, map}
+use mathlib.Core.List.{List, [], _∷_, _++_, map}
 use mathlib.Core.Logic.{_⊎_, inl, inr}
 use Prim.Native.Nat.{ℕ, zero, suc, _+_, _*_, _≤_, _<_, zero-le}
-use native.Mathlib.Nat.{le-trans}
+use native.Mathlib.Nat.{le-trans, zero-add}
+use native.Mathlib.Omega.{arith}
 use lib.Dec.{T, eqb, leb, eqb→eq, leb→le}
-use lib.ListN.{length, getD, length-map, List·getD-eq-default}
-use Rattle.laws.specs.Words.{every}
+use lib.ListN.{length, getD, length-map, List·getD-append, List·getD-eq-default}
+use lib.Seq.{getD-append-add}
+use Rattle.laws.specs.Words.{every, gather}
 use Rattle.solids.specs.Solids.{Solid, tetrahedron, pyramid, prism, hexahedron, Face, three, four, faces, faceCount, faceCorners, facePlace, ofFace}
 use Rattle.solids.specs.Rows.{hexRows, cutPlaces, rowPlaces, rowPlace}
 use Rattle.solids.specs.Loops.{faceRows, firstFace}
@@ -60,19 +62,6 @@ corner-beyond s i k h = List·getD-eq-default (getD (map ofFace (faces s)) i [])
 
 -- ---- the rows
 
--- one test for each row and each of its 24 places
-abbrev rowRight : ℕ → ℕ → Bool
-rowRight r k = eqb (rowPlace r k) (getD cutPlaces (r * 24 + k) 0)
-
-rows-right : T (below 64 (λ r. below 24 (rowRight r)))
-unfolding rowPlace rowPlaces hexRows cutPlaces
-rows-right = tt
-
-pub row-entry : (r k : ℕ) → r < 64 → k < 24 → rowPlace r k ≡ getD cutPlaces (r * 24 + k) 0
-row-entry r k h j =
-    eqb→eq (rowPlace r k) (getD cutPlaces (r * 24 + k) 0)
-    (at-below 24 (rowRight r) (at-below 64 (λ q. below 24 (rowRight q)) rows-right r h) k j)
-
 -- 64 rows of 24 places, none above 8
 abbrev rowFits : List ℕ → Bool
 rowFits l = eqb (length l) 24 && every (λ p. leb p 8) l
@@ -80,6 +69,27 @@ rowFits l = eqb (length l) 24 && every (λ p. leb p 8) l
 rows-fit : T (every rowFits hexRows)
 unfolding hexRows
 rows-fit = tt
+
+-- rows of 24 places, one after the other: place k of row r stands at r * 24 + k
+joined-rows : (rows : List (List ℕ)) → T (every rowFits rows) → (r k : ℕ) → k < 24 → getD (getD rows r []) k 0 ≡ getD (gather (λ row. row) rows) (r * 24 + k) 0
+joined-rows [] h r k j = refl
+joined-rows (row ∷ rows) h r k j = go (λ q. joined-rows rows (and-right (rowFits row) (every rowFits rows) h) q k j) r
+  where
+    long : length row ≡ 24
+    long = eqb→eq (length row) 24 (and-left (eqb (length row) 24) (every (λ p. leb p 8) row) (and-left (rowFits row) (every rowFits rows) h))
+
+    later : (q : ℕ) → getD (row ++ gather (λ row. row) rows) (suc q * 24 + k) 0 ≡ getD (gather (λ row. row) rows) (q * 24 + k) 0
+    later q =
+        let e : suc q * 24 + k ≡ length row + (q * 24 + k) = omega (arith, long) in
+        ap (λ (i : ℕ). getD (row ++ gather (λ row. row) rows) i 0) e ∙ getD-append-add row (gather (λ row. row) rows) (q * 24 + k) 0
+
+    go : ((q : ℕ) → getD (getD rows q []) k 0 ≡ getD (gather (λ row. row) rows) (q * 24 + k) 0) → (q : ℕ) → getD (getD (row ∷ rows) q []) k 0 ≡ getD (row ++ gather (λ row. row) rows) (q * 24 + k) 0
+    go rest zero = sym (ap (λ (i : ℕ). getD (row ++ gather (λ row. row) rows) i 0) (zero-add k) ∙ List·getD-append row (gather (λ row. row) rows) 0 k (rw long j))
+    go rest (suc q) = rest q ∙ sym (later q)
+
+pub row-entry : (r k : ℕ) → r < 64 → k < 24 → rowPlace r k ≡ getD cutPlaces (r * 24 + k) 0
+unfolding rowPlace rowPlaces cutPlaces
+row-entry r k h j = joined-rows hexRows rows-fit r k j
 
 abbrev longRow : ℕ → Bool
 longRow r = eqb (length (rowPlaces r)) 24
