@@ -9,12 +9,12 @@ use mesh::cut_mesh;
 use mesh::judge_mesh;
 use mesh::sign_report;
 use text::read_mesh;
-use text::write::write_element;
-use text::write::write_end;
-use text::write::write_vertex;
+use writing::write_element;
+use writing::write_end;
+use writing::write_vertex;
 ghost use lib.ListN.{length};
 ghost use Rattle.converting.specs.Converting.{conversionInto};
-ghost use Rattle.text.specs.Written.{writeVertexVerdict, writeElementVerdict, writeEndVerdict};
+ghost use Rattle.writing.specs.Written.{writeVertexVerdict, writeElementVerdict, writeEndVerdict};
 ghost use Rattle.brine.specs.Entries.{ReadFront, JudgeFront, CutFront, SignFront, TextFront};
 
 // Reads a file into two tables, three numbers a vertex and nine an element; the values are how many vertices and elements.

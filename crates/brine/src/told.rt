@@ -6,7 +6,7 @@ use mesh::CutAnswer;
 use mesh::JudgeAnswer;
 use mesh::SignAnswer;
 use text::ReadAnswer;
-use text::write::WriteAnswer;
+use writing::WriteAnswer;
 ghost use mathlib.Core.Path.{_≡_};
 ghost use mathlib.Core.List.{[], _∷_};
 ghost use Prim.Native.Nat.{_≤_};
@@ -17,7 +17,7 @@ ghost use Rattle.mesh.specs.Cutting.{cutVerdict};
 ghost use Rattle.mesh.specs.Signs.{signVerdict};
 ghost use Rattle.converting.specs.Converting.{convertVerdict};
 ghost use Rattle.text.specs.Records.{verdictOf};
-ghost use Rattle.text.specs.Writing.{writeVerdict};
+ghost use Rattle.writing.specs.Writing.{writeVerdict};
 ghost use Rattle.brine.specs.FrontLoops.{longest, Tells};
 
 // An answer in the page's numbers, with room for the four values of the sign report; zeros stand behind the values of an entry with fewer.

@@ -6,10 +6,10 @@ use native.Mathlib.Omega.{arith}
 use lib.ListN.{length, take}
 use Rattle.faults.specs.declared.Refusal as faults
 use Rattle.faults.specs.Refusals.{Verdict, accepted, refused}
-use Rattle.text.specs.Written.{refusalLine}
-use Rattle.text.specs.Writing.{writeRefusalVerdict, WriteDone}
-use Rattle.text.specs.declared.write.WriteAnswer.{WriteAnswer}
-use Rattle.text.proofs.WriteTheorems.{refusal-written}
+use Rattle.writing.specs.Written.{refusalLine}
+use Rattle.writing.specs.Writing.{writeRefusalVerdict, WriteDone}
+use Rattle.writing.specs.declared.WriteAnswer.{WriteAnswer}
+use Rattle.writing.proofs.Theorems.{refusal-written}
 use Rattle.converting.specs.declared.ConvertAnswer.{ConvertAnswer}
 use Rattle.converting.specs.declared.ConvertAnswer.the-variants.{Done, Refused}
 use Rattle.converting.specs.Conversion.{conversion, written, programOutput}

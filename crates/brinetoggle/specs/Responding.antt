@@ -4,8 +4,8 @@ use mathlib.Core.Path.{_≡_}
 use mathlib.Core.List.{List}
 use lib.ListN.{length, take}
 use Rattle.faults.specs.Refusals.{Verdict, accepted, refused}
-use Rattle.text.specs.declared.write.WriteAnswer.{WriteAnswer}
-use Rattle.text.specs.declared.write.WriteAnswer.the-variants.{Done, Refused}
+use Rattle.writing.specs.declared.WriteAnswer.{WriteAnswer}
+use Rattle.writing.specs.declared.WriteAnswer.the-variants.{Done, Refused}
 use Rattle.converting.specs.Conversion.{conversion, programOutput}
 use Rattle.brinetoggle.specs.declared.responding.Response.{Response}
 use Rattle.brinetoggle.specs.declared.responding.Response.the-variants.{Mesh, Refusal}

@@ -2,8 +2,8 @@
 use converting::ConvertAnswer;
 use converting::convert;
 use faults::Refusal;
-use text::write::WriteAnswer;
-use text::write::write_refusal;
+use writing::WriteAnswer;
+use writing::write_refusal;
 ghost use mathlib.Core.Path.{_≡_};
 ghost use Prim.Native.Nat.{_≤_};
 ghost use lib.ListN.{length};

@@ -4,8 +4,8 @@ use converting::ConvertAnswer;
 use converting::convert;
 use faults::Refusal;
 use libc::STDOUT_FILENO;
-use text::write::WriteAnswer;
-use text::write::write_refusal;
+use writing::WriteAnswer;
+use writing::write_refusal;
 
 fn print_part(buffer: &[u8], n: usize) {
     if n <= buffer.len() {

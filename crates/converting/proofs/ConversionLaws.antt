@@ -16,7 +16,7 @@ use Rattle.solids.specs.Solids.{Vertex, Tet}
 use Rattle.mesh.specs.Cutting.{cutOf}
 use Rattle.text.specs.File.{fileVerdict}
 use Rattle.text.specs.Records.{storedVertices, storedElements}
-use Rattle.text.specs.Written.{inRoom}
+use Rattle.writing.specs.Written.{inRoom}
 use Rattle.converting.specs.Conversion.{rooms, cutRoom, cutText, conversion}
 use Rattle.converting.specs.declared.ConvertAnswer.{ConvertAnswer}
 use Rattle.converting.specs.declared.ConvertAnswer.the-variants.{Refused}

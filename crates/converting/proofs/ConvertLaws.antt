@@ -10,7 +10,7 @@ use Rattle.laws.proofs.LentLaws.{laid-none}
 use Rattle.faults.specs.Refusals.{Verdict, accepted, refused, refuse}
 use Rattle.faults.specs.declared.Refusal.{Refusal}
 use Rattle.faults.specs.declared.Fault.the-variants as fault
-use Rattle.text.specs.Written.{inRoom}
+use Rattle.writing.specs.Written.{inRoom}
 use Rattle.converting.specs.declared.ConvertAnswer.the-variants.{Done, Refused}
 use Rattle.converting.specs.Converting.{convertVerdict, Left}
 use Rattle.converting.specs.ConversionLoops.{Put}

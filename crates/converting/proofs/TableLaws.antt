@@ -12,10 +12,10 @@ use Rattle.laws.proofs.EveryLaws.{every-index}
 use Rattle.volume.specs.Volume.{inRange}
 use Rattle.records.specs.Limits.{vertexWidth}
 use Rattle.records.specs.Record.{kindOf}
-use Rattle.text.specs.Written.{writeVertexVerdict, writeElementVerdict}
-use Rattle.text.specs.Writing.{WriteDone}
-use Rattle.text.specs.declared.write.WriteAnswer.{WriteAnswer}
-use Rattle.text.proofs.WriteTheorems.{vertex-written, vertex-line-short, element-written, element-line-by-kind}
+use Rattle.writing.specs.Written.{writeVertexVerdict, writeElementVerdict}
+use Rattle.writing.specs.Writing.{WriteDone}
+use Rattle.writing.specs.declared.WriteAnswer.{WriteAnswer}
+use Rattle.writing.proofs.Theorems.{vertex-written, vertex-line-short, element-written, element-line-by-kind}
 use Rattle.converting.specs.Converting.{longestVertex, longestTetrahedron}
 use Rattle.converting.specs.ConversionLoops.{Put, lengthIn, vertexText, tetrahedronRecord, tetrahedronText, GoodVertices, GoodTetrahedra}
 use Rattle.converting.proofs.PutLaws.{put-written}

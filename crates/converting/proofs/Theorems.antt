@@ -17,9 +17,9 @@ use Rattle.faults.specs.Refusals.{Verdict, accepted, refused, refuse, andThen}
 use Rattle.faults.specs.declared.Fault.the-variants as fault
 use Rattle.faults.specs.declared.Refusal.{Refusal}
 use Rattle.faults.proofs.Theorems.{answer-tells-verdict}
-use Rattle.text.specs.Written.{inRoom, refusalLine}
-use Rattle.text.specs.declared.write.WriteAnswer.{WriteAnswer}
-use Rattle.text.proofs.WriteTheorems.{refusal-written, refusal-line-short}
+use Rattle.writing.specs.Written.{inRoom, refusalLine}
+use Rattle.writing.specs.declared.WriteAnswer.{WriteAnswer}
+use Rattle.writing.proofs.Theorems.{refusal-written, refusal-line-short}
 use Rattle.converting.specs.declared.ConvertAnswer.{ConvertAnswer}
 use Rattle.converting.specs.declared.ConvertAnswer.the-variants.{Done, Refused}
 use Rattle.converting.specs.Conversion.{conversion, written, programOutput}

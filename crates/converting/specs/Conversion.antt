@@ -12,7 +12,7 @@ use Rattle.mesh.specs.Cutting.{cutOf}
 use Rattle.text.specs.declared.terms.Rooms.{Rooms}
 use Rattle.text.specs.File.{fileVerdict}
 use Rattle.text.specs.Records.{storedVertices, storedElements}
-use Rattle.text.specs.Written.{writtenFile, refusalLine}
+use Rattle.writing.specs.Written.{writtenFile, refusalLine}
 
 -- tables with room for every file, and for every cut
 abbrev pub rooms : Rooms

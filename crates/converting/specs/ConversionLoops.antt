@@ -14,9 +14,9 @@ use Rattle.volume.specs.Volume.{inRange}
 use Rattle.records.specs.Limits.{vertexLimit, tetrahedronLimit, vertexWidth, tetrahedronWidth}
 use Rattle.records.specs.Record.{recordFinding}
 use Rattle.mesh.specs.Cutting.{cutOf}
-use Rattle.text.specs.Written.{closed, vertexLine, elementLine, endLine, inRoom}
-use Rattle.text.specs.declared.write.WriteAnswer.{WriteAnswer}
-use Rattle.text.specs.declared.write.WriteAnswer.the-variants.{Done, Refused}
+use Rattle.writing.specs.Written.{closed, vertexLine, elementLine, endLine, inRoom}
+use Rattle.writing.specs.declared.WriteAnswer.{WriteAnswer}
+use Rattle.writing.specs.declared.WriteAnswer.the-variants.{Done, Refused}
 use Rattle.converting.specs.Conversion.{cutRoom, cutText}
 
 -- a text of at most so many bytes stands at the front of lent memory, and its length is the answer

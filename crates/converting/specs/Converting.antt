@@ -6,7 +6,7 @@ use lib.ListN.{length}
 use Rattle.laws.specs.Lent.{laid}
 use Rattle.faults.specs.Refusals.{Verdict, accepted, refused, andThen, recordsOf, answerOf}
 use Rattle.records.specs.Limits.{vertexLimit, tetrahedronLimit}
-use Rattle.text.specs.Written.{inRoom}
+use Rattle.writing.specs.Written.{inRoom}
 use Rattle.converting.specs.declared.ConvertAnswer.{ConvertAnswer}
 use Rattle.converting.specs.declared.ConvertAnswer.the-variants.{Done, Refused}
 use Rattle.converting.specs.Conversion.{conversion}

@@ -2,9 +2,9 @@
 use Prim.Native.Nat.{ℕ}
 use mathlib.Core.List.{List, []}
 use lib.ListN.{length, take}
-use Rattle.text.specs.Writing.{writeRefusalVerdict, WriteDone}
-use Rattle.text.specs.declared.write.WriteAnswer.{WriteAnswer}
-use Rattle.text.specs.declared.write.WriteAnswer.the-variants as line
+use Rattle.writing.specs.Writing.{writeRefusalVerdict, WriteDone}
+use Rattle.writing.specs.declared.WriteAnswer.{WriteAnswer}
+use Rattle.writing.specs.declared.WriteAnswer.the-variants as line
 use Rattle.converting.specs.declared.ConvertAnswer.{ConvertAnswer}
 use Rattle.converting.specs.declared.ConvertAnswer.the-variants.{Done, Refused}
 

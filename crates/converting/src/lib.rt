@@ -1,5 +1,5 @@
 // The whole conversion as one function on memory: a file is read, its table is cut, the cut mesh is written.
-// The program only reads its input, calls `convert` and, where that refuses, `text::write::write_refusal`, and writes.
+// The program only reads its input, calls `convert` and, where that refuses, `writing::write_refusal`, and writes.
 mod output;
 
 use crate::output::TETRAHEDRON;
@@ -13,7 +13,7 @@ use mesh::cut_mesh;
 use text::ReadAnswer;
 use text::read_mesh;
 ghost use lib.ListN.{length};
-ghost use Rattle.text.specs.Written.{inRoom};
+ghost use Rattle.writing.specs.Written.{inRoom};
 ghost use Rattle.converting.specs.Converting.{ConvertDone, Left};
 ghost use Rattle.converting.specs.ConversionLoops.{meshText, GoodVertices, GoodTetrahedra, cutVerdict};
 

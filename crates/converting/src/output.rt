@@ -1,14 +1,14 @@
 // The text of a cut mesh, put from the front of lent memory: vertices, tetrahedra, EN.
-use text::write::WriteAnswer;
-use text::write::write_element;
-use text::write::write_end;
-use text::write::write_vertex;
+use writing::WriteAnswer;
+use writing::write_element;
+use writing::write_end;
+use writing::write_vertex;
 ghost use mathlib.Core.Path.{_≡_};
 ghost use Prim.Native.Nat.{_+_, _*_, _≤_};
 ghost use lib.ListN.{length};
 ghost use Rattle.laws.specs.Lent.{laid};
 ghost use Rattle.records.specs.Limits.{vertexLimit, tetrahedronLimit};
-ghost use Rattle.text.specs.Written.{closed, endLine};
+ghost use Rattle.writing.specs.Written.{closed, endLine};
 ghost use Rattle.converting.specs.Converting.{longestOutput, longestVertex, longestTetrahedron, longestEnd};
 ghost use Rattle.converting.specs.ConversionLoops.{Put, lengthIn, vertexText, tetrahedronText, textTo, meshText, GoodVertices, GoodTetrahedra};
 

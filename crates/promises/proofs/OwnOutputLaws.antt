@@ -21,7 +21,7 @@ use Rattle.mesh.proofs.AcceptedLaws.{accepted-clean, accepted-vertices}
 use Rattle.text.specs.Constants.{fileLimit, vertexWidth, elementWidth, elementLimit}
 use Rattle.text.specs.File.{fileVerdict}
 use Rattle.text.specs.Records.{storedVertices, storedElements}
-use Rattle.text.specs.Written.{writtenFile}
+use Rattle.writing.specs.Written.{writtenFile}
 use Rattle.converting.specs.Conversion.{rooms, cutRoom, cutText, conversion}
 use Rattle.converting.proofs.CutLaws.{FromTable, cut-of-table}
 use Rattle.converting.proofs.ReadingLaws.{file-long, file-good}

@@ -38,7 +38,6 @@ use Rattle.mesh.specs.declared.SignAnswer.the-variants as sign
 use Rattle.mesh.specs.declared.SignCounts.{SignCounts}
 use Rattle.text.specs.Constants.{fileLimit, vertexLimit, elementLimit, vertexWidth, elementWidth, numberDigits}
 use Rattle.text.specs.Number.{coordinateOf, numberOf}
-use Rattle.text.specs.Written.{decimal, coordinateText, vertexLine, elementLine, endLine, writtenFile}
 use Rattle.text.specs.Records.{ReadDone}
 use Rattle.text.specs.declared.terms.Spelt.the-variants.{Of}
 use Rattle.text.specs.declared.terms.Coordinate.the-variants.{Thousandths}
@@ -47,6 +46,7 @@ use Rattle.text.specs.declared.ReadAnswer.{ReadAnswer}
 use Rattle.text.specs.declared.ReadAnswer.the-variants as read
 use Rattle.text.specs.declared.ReadCounts.{ReadCounts}
 use Rattle.text.proofs.Theorems.{accepted-stores, accepted-counts}
+use Rattle.writing.specs.Written.{decimal, coordinateText, vertexLine, elementLine, endLine, writtenFile}
 use Rattle.promises.specs.ReadBack.{Calls, Called, together, SameTables, ReadsBack, reading, ended, LineBack, FileBack}
 use Rattle.promises.proofs.ReadBackNumbers.{coordinate-back, number-back}
 use Rattle.promises.proofs.ReadBackLines.{vertex-read, element-read, end-read}

@@ -25,14 +25,14 @@ use Rattle.records.proofs.RecordLaws.{clean-faultless, faultless-clean}
 use Rattle.mesh.specs.Signs.{acceptedTables}
 use Rattle.mesh.proofs.AcceptedLaws.{sign-accepted}
 use Rattle.text.specs.Constants.{fileLimit, vertexLimit, vertexWidth, elementWidth}
-use Rattle.text.specs.Written.{closed, vertexLine, elementLine, endLine, vertexLines, elementLines, afterLines, linesFrom, fileLines, writtenFile}
 use Rattle.text.specs.File.{start}
 use Rattle.text.specs.Records.{roomsOf, verdictOf, ReadDone}
 use Rattle.text.specs.declared.terms.ReaderState.{ReaderState}
 use Rattle.text.specs.declared.ReadAnswer.{ReadAnswer}
 use Rattle.text.specs.declared.ReadAnswer.the-variants as read
-use Rattle.text.proofs.WriteTheorems as W
 use Rattle.text.proofs.Theorems.{read-unique}
+use Rattle.writing.specs.Written.{closed, vertexLine, elementLine, endLine, vertexLines, elementLines, afterLines, linesFrom, fileLines, writtenFile}
+use Rattle.writing.proofs.Theorems as W
 use Rattle.promises.specs.ReadBack.{Call, Calls, vertexText, elementText, endText, Called, bytesOf, wrote, joined, together, CallDone, SameTables, ReadsBack}
 use Rattle.promises.proofs.ReadBackFile.{Ranged, vertexAt, Sound, file-back}
 

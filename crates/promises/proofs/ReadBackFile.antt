@@ -21,9 +21,9 @@ use Rattle.text.specs.Constants.{lineEnd, fileLimit, vertexLimit, elementLimit,
 use Rattle.text.specs.Line.{after}
 use Rattle.text.specs.File.{start, linesOf, atEnd, fileFrom, fileVerdict}
 use Rattle.text.specs.Records.{vertexRecords, elementRecords, recordsFrom, storedVertices, storedElements}
-use Rattle.text.specs.Written.{closed, vertexLines, elementLines, afterLines, linesFrom, fileLines, writtenFile}
 use Rattle.text.specs.declared.terms.ReaderState.{ReaderState}
 use Rattle.text.specs.declared.terms.Rooms.{Rooms}
+use Rattle.writing.specs.Written.{closed, vertexLines, elementLines, afterLines, linesFrom, fileLines, writtenFile}
 use Rattle.promises.specs.ReadBack.{reading, ended, FileBack}
 use Rattle.promises.proofs.ReadBackLines.{Each, LineRead, vertex-read, element-read, end-read}
 

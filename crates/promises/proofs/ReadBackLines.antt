@@ -22,7 +22,6 @@ use Rattle.text.specs.Constants.{lineEnd, space, vertexLimit, elementLimit, ver
 use Rattle.text.specs.Number.{numberOf, valueOf, whole}
 use Rattle.text.specs.Line.{markBytes, markWith, markOf, wants, roleOf, fieldsOf, areFields, firstOf, fieldVerdict, fieldsVerdict, badMark, tooMany, badShape, noRoom, badCounts, afterRole, after, lineVerdict}
 use Rattle.text.specs.Records.{vertexRecord, tipFirst, cornerFields, elementRecord, vertexRecords, elementRecords}
-use Rattle.text.specs.Written.{decimal, coordinateText, lineWith, vertexLine, markOfKind, elementLine, endLine}
 use Rattle.text.specs.declared.terms.Mark.{Mark}
 use Rattle.text.specs.declared.terms.Mark.the-variants.{Vx, Te, Py, Pz, Pr, Hx, En, Unknown}
 use Rattle.text.specs.declared.terms.Role.{Role}
@@ -31,6 +30,7 @@ use Rattle.text.specs.declared.terms.Judged.the-variants.{Passed}
 use Rattle.text.specs.declared.terms.ReaderState.{ReaderState}
 use Rattle.text.specs.declared.terms.Rooms.{Rooms}
 use Rattle.text.proofs.FieldLaws.{some-bytes}
+use Rattle.writing.specs.Written.{decimal, coordinateText, lineWith, vertexLine, markOfKind, elementLine, endLine}
 use Rattle.promises.specs.ReadBack.{reading, ended, LineBack}
 use Rattle.promises.proofs.ReadBackNumbers.{free-append, decimal-free, decimal-some, number-back, value-back, coordinate-back, thousandths-back, coordinate-free, coordinate-some}
 

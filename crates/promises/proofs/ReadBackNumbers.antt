@@ -15,11 +15,11 @@ use Rattle.volume.specs.Volume.{inRange}
 use Rattle.volume.proofs.RangeLaws.{in-range-within}
 use Rattle.text.specs.Constants.{comma, minus, point, digit0, digit9, coordinateLimit, numberDigits}
 use Rattle.text.specs.Number.{appended, onto, spelt, whole, decimals, signed, millimetres, unsigned, coordinateOf, thousandthsOf, numberOf, valueOf}
-use Rattle.text.specs.Written.{digit, digitsOf, decimal, signOf, millimetresOf, coordinateText}
 use Rattle.text.specs.declared.terms.Spelt.{Spelt}
 use Rattle.text.specs.declared.terms.Spelt.the-variants.{Of, Not}
 use Rattle.text.specs.declared.terms.Coordinate.the-variants.{Thousandths}
-use Rattle.text.proofs.DecimalLaws.{digits-short, tenth, decimal-digits}
+use Rattle.writing.specs.Written.{digit, digitsOf, decimal, signOf, millimetresOf, coordinateText}
+use Rattle.writing.proofs.DecimalLaws.{digits-short, tenth, decimal-digits}
 
 -- ---- bytes that do not stand in a text
 

@@ -12,18 +12,18 @@ use Rattle.faults.specs.Refusals.{accepted}
 use Rattle.volume.specs.Volume.{pointAt}
 use Rattle.records.specs.Record.{recordAt}
 use Rattle.text.specs.Constants.{fileLimit, vertexWidth, elementWidth}
-use Rattle.text.specs.Written.{closed, vertexLine, elementLine, endLine, writtenFile, writeVertexVerdict, writeElementVerdict, writeEndVerdict}
-use Rattle.text.specs.Writing.{WriteDone}
 use Rattle.text.specs.Line.{markOf, roleOf, lineVerdict}
 use Rattle.text.specs.File.{fileVerdict}
 use Rattle.text.specs.Records.{vertexRecords, elementRecords, storedVertices, storedElements, ReadDone}
 use Rattle.text.specs.declared.terms.ReaderState.{ReaderState}
 use Rattle.text.specs.declared.terms.Rooms.{Rooms}
 use Rattle.text.specs.declared.terms.Line.the-variants.{Next}
-use Rattle.text.specs.declared.write.WriteAnswer.{WriteAnswer}
-use Rattle.text.specs.declared.write.WriteAnswer.the-variants as write
 use Rattle.text.specs.declared.ReadAnswer.{ReadAnswer}
 use Rattle.text.specs.declared.ReadAnswer.the-variants as read
+use Rattle.writing.specs.Written.{closed, vertexLine, elementLine, endLine, writtenFile, writeVertexVerdict, writeElementVerdict, writeEndVerdict}
+use Rattle.writing.specs.Writing.{WriteDone}
+use Rattle.writing.specs.declared.WriteAnswer.{WriteAnswer}
+use Rattle.writing.specs.declared.WriteAnswer.the-variants as write
 
 -- ---- the calls that write a file
 

@@ -1,8 +1,3 @@
-pub mod DecimalLaws
-pub mod PutLaws
-pub mod WrittenLaws
-pub mod WriteLaws
-pub mod WriteTheorems
 pub mod PartLaws
 pub mod NumberLaws
 pub mod MarkLaws

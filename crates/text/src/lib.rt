@@ -1,5 +1,5 @@
 // The text file: reading it into two lent tables.
-mod constants;
+pub mod constants;
 mod field;
 mod file;
 mod line;
@@ -8,8 +8,6 @@ mod number;
 mod scan;
 mod store;
 pub mod terms;
-pub mod write;
-mod written;
 
 use faults::Refusal;
 ghost use Rattle.text.specs.Records.{ReadDone};

@@ -2,11 +2,11 @@
 use faults::Fault;
 use faults::Refusal;
 use libc::STDOUT_FILENO;
-use text::write::WriteAnswer;
-use text::write::write_element;
-use text::write::write_end;
-use text::write::write_refusal;
-use text::write::write_vertex;
+use writing::WriteAnswer;
+use writing::write_element;
+use writing::write_end;
+use writing::write_refusal;
+use writing::write_vertex;
 
 fn print_part(buffer: &[u8], n: usize) {
     if n <= buffer.len() {

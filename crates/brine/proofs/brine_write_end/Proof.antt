@@ -1,4 +1,4 @@
--- `brine::brine_write_end` tells what `text::write::write_end` answers, and leaves what it leaves. Assumes nothing.
+-- `brine::brine_write_end` tells what `writing::write_end` answers, and leaves what it leaves. Assumes nothing.
 use mathlib.Core.Path.{_≡_}
 use lib.ListN.{length}
 use Rattle.brine.proofs.FrontLaws.{answered}

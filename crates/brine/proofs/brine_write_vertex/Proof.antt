@@ -1,4 +1,4 @@
--- `brine::brine_write_vertex` tells what `text::write::write_vertex` answers, and leaves what it leaves. Assumes nothing.
+-- `brine::brine_write_vertex` tells what `writing::write_vertex` answers, and leaves what it leaves. Assumes nothing.
 use mathlib.Core.Path.{_≡_}
 use mir.Facts.{toZ-ofZ}
 use lib.ListN.{length}

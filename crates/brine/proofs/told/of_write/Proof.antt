@@ -1,7 +1,7 @@
 -- `brine::told::of_write` tells what a writer answers. Assumes nothing.
 use mathlib.Core.Path.{refl, ap}
 use Rattle.faults.specs.Refusals.{answerOf}
-use Rattle.text.specs.Writing.{writeVerdict}
+use Rattle.writing.specs.Writing.{writeVerdict}
 use Rattle.brine.proofs.FrontLaws.{fewer}
 use borrow.Author.Needs.{needs}
 use Rattle.brine.proofs.told.of_write.Statement.{statement}

@@ -2,7 +2,7 @@
 use native.Mathlib.Omega.{arith}
 use borrow.Author.Needs.{needs}
 use denote.Ref.{now}
-use Rattle.text.proofs.WriteTheorems.{end-written, end-line-short}
+use Rattle.writing.proofs.Theorems.{end-written, end-line-short}
 use Rattle.converting.specs.Converting.{longestEnd}
 use Rattle.converting.proofs.PutLaws.{put-written}
 use Rattle.converting.proofs.output.put_end.Statement.{statement}
