@@ -6,7 +6,7 @@ use lib.IntN.{ℤ}
 use lib.ListN.{length}
 use Rattle.laws.specs.Lent.{laid}
 use Rattle.faults.specs.Refusals.{Verdict, recordsOf}
-use Rattle.mesh.specs.Judge.{judged}
+use Rattle.judging.specs.Judge.{judged}
 use Rattle.mesh.specs.Cutting.{cutOf, flat}
 use Rattle.mesh.specs.Signs.{signsOf}
 use Rattle.text.specs.File.{fileVerdict}

@@ -2,8 +2,8 @@
 use converting::ConvertAnswer;
 use faults::Refusal;
 use faults::number_of;
+use judging::JudgeAnswer;
 use mesh::CutAnswer;
-use mesh::JudgeAnswer;
 use mesh::SignAnswer;
 use text::ReadAnswer;
 use writing::WriteAnswer;
@@ -12,7 +12,7 @@ ghost use mathlib.Core.List.{[], _∷_};
 ghost use Prim.Native.Nat.{_≤_};
 ghost use lib.ListN.{length, take};
 ghost use Rattle.faults.specs.Refusals.{accepted, refused};
-ghost use Rattle.mesh.specs.Judge.{judgeVerdict};
+ghost use Rattle.judging.specs.Judge.{judgeVerdict};
 ghost use Rattle.mesh.specs.Cutting.{cutVerdict};
 ghost use Rattle.mesh.specs.Signs.{signVerdict};
 ghost use Rattle.converting.specs.Converting.{convertVerdict};

@@ -17,9 +17,9 @@ use Rattle.solids.specs.Solids.{Element}
 use Rattle.solids.specs.Cut.{cutMesh}
 use Rattle.records.specs.Record.{width, usedOf, spareOf, kindOf, isKind, notZero, recordFinding, recordAt, firstElements}
 use Rattle.records.specs.Limits.{elementLimit, tetrahedronWidth, vertexLimit}
-use Rattle.mesh.specs.Judge.{faultIn, badRecord, badElement, misfit, judged}
+use Rattle.judging.specs.Judge.{faultIn, badRecord, badElement, misfit, judged}
 use Rattle.mesh.specs.Cutting.{cutOf}
-use Rattle.mesh.proofs.Theorems.{accepted-tetrahedra}
+use Rattle.judging.proofs.Theorems.{accepted-tetrahedra}
 use Rattle.text.specs.File.{start, linesOf, fileVerdict}
 use Rattle.text.specs.Records.{elementRecords, recordsFrom, storedElements}
 use Rattle.text.proofs.AcceptedLaws.{file-fits}

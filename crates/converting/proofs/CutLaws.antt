@@ -28,12 +28,12 @@ use Rattle.records.proofs.Theorems.{faultless-clean, first-all}
 use Rattle.mesh.specs.declared.CutAnswer.{CutAnswer}
 use Rattle.mesh.specs.declared.CutAnswer.the-variants.{Done, Refused}
 use Rattle.mesh.specs.declared.CutCounts.{CutCounts}
-use Rattle.mesh.specs.Judge.{judged}
+use Rattle.judging.specs.Judge.{judged}
 use Rattle.mesh.specs.Cutting.{flat, cutOf, cutVerdict, CutDone}
-use Rattle.mesh.proofs.JudgeLaws.{records-inside}
-use Rattle.mesh.proofs.AcceptedLaws.{no-bad-record}
+use Rattle.judging.proofs.JudgeLaws.{records-inside}
+use Rattle.judging.proofs.AcceptedLaws.{no-bad-record}
 use Rattle.mesh.proofs.StoreLaws.{length-flat}
-use Rattle.mesh.proofs.Theorems.{accepted-elements, accepted-proper, accepted-tetrahedra}
+use Rattle.judging.proofs.Theorems.{accepted-elements, accepted-proper, accepted-tetrahedra}
 use Rattle.records.proofs.TetrahedronRecord.{isGood, record-faultless}
 use Rattle.converting.specs.Conversion.{cutRoom}
 use Rattle.converting.specs.ConversionLoops.{GoodTetrahedra}

@@ -17,7 +17,7 @@ use Rattle.faults.specs.Refusals.{Verdict, accepted, refused, refuse, refusePai
 use Rattle.records.specs.Record.{width, recordFinding, recordAt, firstElements}
 use Rattle.solids.specs.Cut.{cutMesh}
 use Rattle.records.specs.Limits.{elementLimit, tetrahedronWidth, vertexLimit}
-use Rattle.mesh.specs.Judge.{faultIn, badRecord, badElement, misfit, judged}
+use Rattle.judging.specs.Judge.{faultIn, badRecord, badElement, misfit, judged}
 use Rattle.mesh.specs.Cutting.{cutOf}
 use Rattle.text.specs.Constants.{lineEnd, fileLimit}
 use Rattle.text.specs.Line.{lineVerdict}

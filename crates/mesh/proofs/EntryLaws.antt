@@ -1,45 +1,55 @@
--- From the shared judgement to the answers of the entries.
+-- From the answer of judging and the output's room to the answer of cutting.
 -- Assumes nothing.
 use mathlib.Core.Path.{_≡_, refl, sym, ap, _∙_}
 use mathlib.Core.Bool.{Bool, true, false, cond}
 use mathlib.Core.List.{List, [], _∷_}
 use Prim.Native.Nat.{ℕ, _*_, _≤_}
 use native.Mathlib.Omega.{arith}
-use lib.Dec.{ltb}
+use lib.Dec.{eqb, ltb}
 use lib.ListN.{length}
-use borrow.Author.Tests.{ltb-false}
+use borrow.Author.Tests.{eqb-true, ltb-false}
 use Rattle.laws.specs.Lent.{laid}
-use Rattle.laws.proofs.LentLaws.{laid-none}
-use Rattle.faults.specs.declared.Fault.the-variants.{Room}
+use Rattle.faults.specs.declared.Fault.the-variants.{Room, Join}
 use Rattle.faults.specs.declared.Refusal.{Refusal}
-use Rattle.faults.specs.Refusals.{Verdict, accepted, refused, refuse, andThen, recordsOf, answerOf}
-use Rattle.solids.specs.Solids.{Tet, Element}
+use Rattle.faults.specs.Refusals.{numberOf, Verdict, accepted, refused, refuse, andThen, recordsOf, answerOf}
+use Rattle.faults.proofs.Theorems.{number-tells-fault}
+use Rattle.solids.specs.Solids.{Tet}
+use Rattle.records.specs.Record.{firstElements}
 use Rattle.records.specs.Loops.{WholeTable}
 use Rattle.records.specs.Limits.{tetrahedronWidth}
-use Rattle.mesh.specs.declared.JudgeAnswer.{JudgeAnswer}
-use Rattle.mesh.specs.declared.JudgeAnswer.the-variants as judge
+use Rattle.judging.specs.declared.JudgeAnswer.{JudgeAnswer}
+use Rattle.judging.specs.declared.JudgeAnswer.the-variants as judge
+use Rattle.judging.specs.Judge.{judged, JudgeDone}
+use Rattle.judging.specs.JudgeLoops.{Judging}
+use Rattle.judging.proofs.Theorems.{judge-told, join-recorded}
 use Rattle.mesh.specs.declared.CutAnswer.{CutAnswer}
-use Rattle.mesh.specs.declared.CutAnswer.the-variants as cut
-use Rattle.mesh.specs.Judge.{judged, judgeVerdict, JudgeDone}
-use Rattle.mesh.specs.JudgeLoops.{answerFrom, firstRefusal, roomAnswer, pairsJudged, Recorded, RecordsJudging, Judging}
+use Rattle.mesh.specs.AnswerLoops.{firstRefusal, roomAnswer}
 use Rattle.mesh.specs.Cutting.{flat, cutOf, cutVerdict, CutDone}
-use Rattle.mesh.specs.CutLoops.{storedUnder, withCount, pairsCut, PairsCut}
-use Rattle.mesh.proofs.VerdictLaws.{pairs-accepted}
+use Rattle.mesh.specs.CutLoops.{faultlessOf, storedUnder, withCount}
 use Rattle.mesh.proofs.MeshCutLaws.{cutTo, cut-none}
 
--- the answer of judging
-pub judge-done : (v n : ℕ) (t : List ℕ) (r : JudgeAnswer) → Judging v n t r → JudgeDone v n t r
-judge-done v n t judge.Done h = record { answer = ap (λ (x : Verdict (List _)). answerOf [] (andThen x λ es. accepted [])) (sym (h .verdict)) }
-judge-done v n t (judge.Refused x) h = record { answer = ap (λ (y : Verdict (List _)). answerOf [] (andThen y λ es. accepted [])) (sym h) }
+-- ---- the answer of judging
 
 -- the judgement of an answer that is known
-pub judging-at : (v n : ℕ) (t : List ℕ) {r s : JudgeAnswer} → r ≡ s → Judging v n t r → Judging v n t s
-judging-at v n t e h = rw e at h
+pub judging-at : (v n : ℕ) (t : List ℕ) {r s : JudgeAnswer} → r ≡ s → JudgeDone v n t r → Judging v n t s
+judging-at v n t {r} {s} e h = judge-told v n t s (rw e at h)
 
-pub records-at : (v n : ℕ) (t : List ℕ) {r s : JudgeAnswer} → r ≡ s → RecordsJudging v n t r → RecordsJudging v n t s
-records-at v n t e h = rw e at h
+-- no records are whole
+none-whole : (t : List ℕ) → WholeTable t 0
+none-whole t = record { few = omega arith; long = omega arith; whole = λ k l. absurd (omega arith) }
 
--- ---- the pairs, then the output's room
+-- the records that are faultless by the answer are whole
+pub faultless-whole : (v n : ℕ) (t : List ℕ) (r : JudgeAnswer) → JudgeDone v n t r → {m : ℕ} → m ≡ faultlessOf r n → WholeTable t m
+faultless-whole v n t judge.Done h e = rw e (judge-told v n t judge.Done h .table)
+faultless-whole v n t (judge.Refused x) h e = rw e (go (eqb (numberOf (x .fault)) (numberOf Join)) refl)
+  where
+    go : (b : Bool) → eqb (numberOf (x .fault)) (numberOf Join) ≡ b → WholeTable t (cond b n 0)
+    go true e =
+        join-recorded v n t x (judge-told v n t (judge.Refused x) h)
+        (number-tells-fault (x .fault) Join (eqb-true (numberOf (x .fault)) (numberOf Join) e)) .table
+    go false e = none-whole t
+
+-- ---- then the output's room
 
 never-done : {x : Refusal} → judge.Refused x ≡ judge.Done → ⊥
 never-done e = let z : _≡_ {A = ℕ} 0 1 = cc in omega arith
@@ -61,65 +71,26 @@ room-done lent wanted = go (ltb lent wanted) refl
 -- the records that are stored under an answer are whole
 pub stored-whole : (t : List ℕ) (n : ℕ) → WholeTable t n → (a : JudgeAnswer) → WholeTable t (storedUnder a n)
 stored-whole t n h judge.Done = h
-stored-whole t n h (judge.Refused x) = record { few = omega arith; long = omega arith; whole = λ k l. absurd (omega arith) }
+stored-whole t n h (judge.Refused x) = none-whole t
 
-module _ (t : List ℕ) (n : ℕ) (old : List ℕ) where
+module _ (t : List ℕ) (m : ℕ) (old : List ℕ) (j : JudgeAnswer) where
   abbrev wanted : ℕ
-  wanted = tetrahedronWidth * length (cutTo t n)
+  wanted = tetrahedronWidth * length (cutTo t m)
 
-  -- the code's answer: the first refusal of pairs and room
+  -- the code's answer: the first refusal of judging and room
   abbrev pub Both : JudgeAnswer → Type 0
-  Both a = a ≡ firstRefusal (answerFrom (pairsJudged t n)) (roomAnswer (length old) wanted)
+  Both a = a ≡ firstRefusal j (roomAnswer (length old) wanted)
 
   -- made of what the calls say
-  pub both : {a p r : JudgeAnswer} {count m : ℕ} → count ≡ length (cutTo t n) → m ≡ tetrahedronWidth * count → p ≡ answerFrom (pairsJudged t n)
-      → r ≡ roomAnswer (length old) m → a ≡ firstRefusal p r → Both a
-  both {r} e f said-pairs said-room said =
-      said ∙ ap (λ x. firstRefusal x r) said-pairs
-      ∙ ap (firstRefusal (answerFrom (pairsJudged t n))) (said-room ∙ ap (roomAnswer (length old)) (f ∙ ap (λ (k : ℕ). tetrahedronWidth * k) e))
+  pub both : {a r : JudgeAnswer} {count w : ℕ} → count ≡ length (cutTo t m) → w ≡ tetrahedronWidth * count → r ≡ roomAnswer (length old) w
+      → a ≡ firstRefusal j r → Both a
+  both e f said-room said =
+      said ∙ ap (firstRefusal j) (said-room ∙ ap (roomAnswer (length old)) (f ∙ ap (λ (k : ℕ). tetrahedronWidth * k) e))
 
   -- what is stored has room
-  pub stored-room : (a : JudgeAnswer) → Both a → tetrahedronWidth * length (cutTo t (storedUnder a n)) ≤ length old
-  stored-room judge.Done e = room-done (length old) wanted (later-done (answerFrom (pairsJudged t n)) _ (sym e))
+  pub stored-room : (a : JudgeAnswer) → Both a → tetrahedronWidth * length (cutTo t (storedUnder a m)) ≤ length old
+  stored-room judge.Done e = room-done (length old) wanted (later-done j _ (sym e))
   stored-room (judge.Refused x) e = rw (cut-none t) (omega arith)
-
-  module _ {a : JudgeAnswer} {count : ℕ} {new : List ℕ} {r : CutAnswer}
-      (e : Both a) (c : count ≡ length (cutTo t n)) (o : new ≡ laid (flat (cutTo t (storedUnder a n))) old) (w : r ≡ withCount a count)
-    where
-      -- refused: nothing is stored
-      refusing : (x : Refusal) → a ≡ judge.Refused x → pairsCut t n (length old) ≡ refused x → PairsCut t n old r new
-      unfolding flat
-      refusing x q p = record {
-        answer = ap cutVerdict (w ∙ ap (λ b. withCount b count) q) ∙ ap (λ (y : Verdict (List (Tet ℕ))). andThen y λ ts. accepted (length ts ∷ [])) (sym p);
-        output =
-            o ∙ ap (λ b. laid (flat (cutTo t (storedUnder b n))) old) q ∙ ap (λ ts. laid (flat ts) old) (cut-none t)
-            ∙ ap (λ (y : Verdict (List (Tet ℕ))). laid (recordsOf flat y) old) (sym p);
-      }
-
-      -- done: the cut of all elements is stored
-      cutting : a ≡ judge.Done → pairsCut t n (length old) ≡ accepted (cutTo t n) → PairsCut t n old r new
-      cutting q p = record {
-        answer =
-            ap cutVerdict (w ∙ ap (λ b. withCount b count) q) ∙ ap (λ (k : ℕ). accepted (k ∷ [])) c
-            ∙ ap (λ (y : Verdict (List (Tet ℕ))). andThen y λ ts. accepted (length ts ∷ [])) (sym p);
-        output =
-            o ∙ ap (λ b. laid (flat (cutTo t (storedUnder b n))) old) q
-            ∙ ap (λ (y : Verdict (List (Tet ℕ))). laid (recordsOf flat y) old) (sym p);
-      }
-
-      pub pairs-cut : PairsCut t n old r new
-      unfolding pairsCut roomAnswer
-      pairs-cut = go (pairsJudged t n) refl
-        where
-          fitting : (es : List Element) → pairsJudged t n ≡ accepted es → (b : Bool) → ltb (length old) wanted ≡ b → PairsCut t n old r new
-          fitting es p true l =
-              refusing (refuse Room 0) (e ∙ rw (p, l)) (rw (p, pairs-accepted t n es p, l))
-          fitting es p false l =
-              cutting (e ∙ rw (p, l)) (rw (p, pairs-accepted t n es p, l))
-
-          go : (x : Verdict (List Element)) → pairsJudged t n ≡ x → PairsCut t n old r new
-          go (refused y) p = refusing y (e ∙ rw p) (rw p)
-          go (accepted es) p = fitting es p (ltb (length old) wanted) refl
 
 -- ---- the entry
 
@@ -132,11 +103,33 @@ module _ (v n : ℕ) (t old : List ℕ) where
     output = o ∙ ap (λ (x : Verdict (List (Tet ℕ))). laid (recordsOf flat x) old) (sym e);
   }
 
-  pub cut-refused : (x : Refusal) → judged v n t ≡ refused x → CutDone v n t old (cut.Refused x) old
-  unfolding cutOf
-  cut-refused x h = done (cut.Refused x) old (refused x) (rw h) refl (sym (laid-none old))
+  module _ (m : ℕ) {count : ℕ} {a : JudgeAnswer} {new : List ℕ} {r : CutAnswer}
+      (c : count ≡ length (cutTo t m)) (o : new ≡ laid (flat (cutTo t (storedUnder a m))) old) (w : r ≡ withCount a count)
+    where
+      -- refused: nothing is stored
+      refusing : (x : Refusal) → a ≡ judge.Refused x → cutOf v n t (length old) ≡ refused x → CutDone v n t old r new
+      unfolding flat
+      refusing x q p =
+          done r new (refused x) p (ap cutVerdict (w ∙ ap (λ b. withCount b count) q))
+          (o ∙ ap (λ b. laid (flat (cutTo t (storedUnder b m))) old) q ∙ ap (λ ts. laid (flat ts) old) (cut-none t))
 
-  -- the records have no fault: pairs and room decide
-  pub cut-recorded : (r : CutAnswer) (new : List ℕ) → Recorded v n t → PairsCut t n old r new → CutDone v n t old r new
-  unfolding cutOf pairsCut
-  cut-recorded r new h p = done r new (pairsCut t n (length old)) (rw (h .verdict)) (p .answer) (p .output)
+      -- done: the cut of all elements is stored
+      cutting : a ≡ judge.Done → cutOf v n t (length old) ≡ accepted (cutTo t m) → CutDone v n t old r new
+      cutting q p =
+          done r new (accepted (cutTo t m)) p (ap cutVerdict (w ∙ ap (λ b. withCount b count) q) ∙ ap (λ (k : ℕ). accepted (k ∷ [])) c)
+          (o ∙ ap (λ b. laid (flat (cutTo t (storedUnder b m))) old) q)
+
+  -- refused as judged, or for the output's room, or cut
+  pub cut-done : (j : JudgeAnswer) → JudgeDone v n t j → (m : ℕ) → m ≡ faultlessOf j n → {a : JudgeAnswer} {count : ℕ} {new : List ℕ} {r : CutAnswer}
+      → Both t m old j a → count ≡ length (cutTo t m) → new ≡ laid (flat (cutTo t (storedUnder a m))) old → r ≡ withCount a count
+      → CutDone v n t old r new
+  unfolding cutOf roomAnswer
+  cut-done (judge.Refused x) h m f e c o w = refusing m c o w x e (rw (judge-told v n t (judge.Refused x) h))
+  cut-done judge.Done h m f {a} {count} {new} {r} e c o w = go (ltb (length old) (tetrahedronWidth * length (cutTo t m))) refl
+    where
+      whole : judged v n t ≡ accepted (firstElements t m)
+      whole = judge-told v n t judge.Done h .verdict ∙ ap (λ (k : ℕ). accepted (firstElements t k)) (sym f)
+
+      go : (b : Bool) → ltb (length old) (tetrahedronWidth * length (cutTo t m)) ≡ b → CutDone v n t old r new
+      go true l = refusing m c o w (refuse Room 0) (e ∙ rw l) (rw (whole, l))
+      go false l = cutting m c o w (e ∙ rw l) (rw (whole, l))

@@ -1,11 +1,5 @@
--- What is proved of tables.
-pub mod FitFaceLaws
-pub mod FittingLaws
-pub mod ChainLaws
-pub mod EdgeLaws
-pub mod JudgeLaws
+-- What is proved of cutting and of the sign report.
 pub mod KeyLaws
-pub mod VerdictLaws
 pub mod EntryLaws
 pub mod InsertLaws
 pub mod LowestLaws
@@ -19,10 +13,9 @@ pub mod RecordCutLaws
 pub mod CornerLaws
 pub mod StoreLaws
 pub mod MeshCutLaws
-pub mod AcceptedLaws
-pub mod AcceptanceLaws
 pub mod Theorems
 pub mod SiteLaws
 pub mod VolumeLaws
 pub mod BlockWalks
 pub mod SignLaws
+pub mod SignedLaws

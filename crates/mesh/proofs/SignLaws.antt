@@ -19,15 +19,15 @@ use Rattle.faults.specs.Refusals.{Verdict, accepted, refused, refuse, refuseIf,
 use Rattle.solids.specs.Solids.{Tet, Element}
 use Rattle.solids.specs.Cut.{cut, cutMesh}
 use Rattle.records.specs.Limits.{vertexWidth}
-use Rattle.mesh.specs.declared.JudgeAnswer.the-variants as judge
+use Rattle.judging.specs.declared.JudgeAnswer.the-variants as judge
 use Rattle.mesh.specs.declared.SignCounts.{SignCounts}
 use Rattle.mesh.specs.declared.signs.Sign.{Sign}
 use Rattle.mesh.specs.declared.signs.Sign.the-variants.{Positive, Zero, Negative}
 use Rattle.mesh.specs.declared.signs.Tally.{Tally}
 use Rattle.mesh.specs.declared.SignAnswer.{SignAnswer}
 use Rattle.mesh.specs.declared.SignAnswer.the-variants.{Done, Refused}
-use Rattle.mesh.specs.Judge.{judged}
-use Rattle.mesh.specs.JudgeLoops.{firstRefusal, roomAnswer}
+use Rattle.judging.specs.Judge.{judged}
+use Rattle.mesh.specs.AnswerLoops.{firstRefusal, roomAnswer}
 use Rattle.mesh.specs.Signs.{volumeIn, isPositive, isZero, isNegative, sound, signCounts, badPoint, signsOf, signVerdict, SignDone}
 use Rattle.mesh.specs.BlockLoops.{tetsIn, BlockIs}
 use Rattle.mesh.specs.SignLoops.{rangeAnswer, verticesAnswer, signOf, withSign, Tallied, allPositive, ofCounts, FewSums, Summed}

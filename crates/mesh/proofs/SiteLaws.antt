@@ -22,11 +22,11 @@ use Rattle.records.specs.Record.{usedOf, elementOf, recordAt}
 use Rattle.records.specs.Loops.{isNumber, Whole}
 use Rattle.records.proofs.Theorems.{whole-proper}
 use Rattle.records.specs.Limits.{vertexWidth}
-use Rattle.mesh.specs.Judge.{badRecord}
+use Rattle.judging.specs.Judge.{badRecord}
 use Rattle.mesh.specs.Signs.{badPoint}
 use Rattle.mesh.specs.BlockLoops.{BlockIs}
 use Rattle.mesh.specs.SignLoops.{sited, sitedTet, SitedBlock, SitedTable}
-use Rattle.mesh.proofs.JudgeLaws.{records-inside}
+use Rattle.judging.proofs.JudgeLaws.{records-inside}
 
 module _ (table : List ℤ) where
   -- what is known of a sited vertex

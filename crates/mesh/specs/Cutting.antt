@@ -13,7 +13,7 @@ use Rattle.solids.specs.Cut.{cutMesh}
 use Rattle.records.specs.Limits.{tetrahedronWidth}
 use Rattle.mesh.specs.declared.CutAnswer.{CutAnswer}
 use Rattle.mesh.specs.declared.CutAnswer.the-variants.{Done, Refused}
-use Rattle.mesh.specs.Judge.{judged}
+use Rattle.judging.specs.Judge.{judged}
 
 -- tetrahedra as numbers, one after the other
 unfoldable pub flat : List (Tet Vertex) → List ℕ

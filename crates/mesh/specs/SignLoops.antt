@@ -14,13 +14,13 @@ use Rattle.volume.specs.Volume.{pointInRange, pointAt}
 use Rattle.solids.specs.Solids.{Vertex, Tet, ofTet}
 use Rattle.records.specs.Record.{usedOf, recordAt}
 use Rattle.records.specs.Limits.{vertexWidth}
-use Rattle.mesh.specs.declared.JudgeAnswer.{JudgeAnswer}
-use Rattle.mesh.specs.declared.JudgeAnswer.the-variants.{Done, Refused}
+use Rattle.judging.specs.declared.JudgeAnswer.{JudgeAnswer}
+use Rattle.judging.specs.declared.JudgeAnswer.the-variants.{Done, Refused}
 use Rattle.mesh.specs.declared.SignCounts.{SignCounts}
 use Rattle.mesh.specs.declared.signs.Sign.{Sign}
 use Rattle.mesh.specs.declared.signs.Sign.the-variants.{Positive, Zero, Negative}
 use Rattle.mesh.specs.declared.signs.Tally.{Tally}
-use Rattle.mesh.specs.JudgeLoops.{firstRefusal, roomAnswer}
+use Rattle.mesh.specs.AnswerLoops.{firstRefusal, roomAnswer}
 use Rattle.mesh.specs.Signs.{badPoint, isPositive, isZero, isNegative}
 use Rattle.mesh.specs.BlockLoops.{tetsIn}
 

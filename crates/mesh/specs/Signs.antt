@@ -17,7 +17,7 @@ use Rattle.solids.specs.Cut.{cut, cutMesh}
 use Rattle.records.specs.Limits.{vertexWidth}
 use Rattle.mesh.specs.declared.SignAnswer.{SignAnswer}
 use Rattle.mesh.specs.declared.SignAnswer.the-variants.{Done, Refused}
-use Rattle.mesh.specs.Judge.{judged}
+use Rattle.judging.specs.Judge.{judged}
 
 -- the sixfold volume of a tetrahedron of the cut, its vertices taken from the vertex table
 unfoldable pub volumeIn : List ℤ → Tet Vertex → ℤ

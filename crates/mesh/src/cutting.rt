@@ -1,10 +1,9 @@
 // The tetrahedra of a table: counted, and stored one after the other.
 use crate::CutAnswer;
 use crate::CutCounts;
-use crate::JudgeAnswer;
 use crate::blocks;
 use crate::blocks::Tet;
-use crate::judge;
+use judging::JudgeAnswer;
 ghost use mathlib.Core.Path.{_≡_};
 ghost use mathlib.Core.List.{[], _∷_};
 ghost use Prim.Native.Nat.{_+_, _*_, _≤_};
@@ -17,11 +16,29 @@ ghost use Rattle.records.specs.Loops.{Whole, WholeTable};
 ghost use Rattle.records.specs.Limits.{tetrahedronWidth};
 ghost use Rattle.mesh.specs.Cutting.{flat};
 ghost use Rattle.mesh.specs.BlockLoops.{tetOf, tetsIn, Stored, Counted};
-ghost use Rattle.mesh.specs.FitLoops.{Numbered};
-ghost use Rattle.mesh.specs.CutLoops.{storedUnder, withCount, PairsCut};
+ghost use Rattle.mesh.specs.CutLoops.{faultlessOf, storedUnder, withCount};
 
 // How many numbers a tetrahedron of the output has.
 const TET: usize = 4;
+
+// The number of JOIN, which judging looks for last.
+const JOIN: u32 = 14;
+
+// How many elements have faultless records: all where the table is accepted or refused for a pair, else none.
+pub fn faultless(answer: JudgeAnswer, n: usize) -> usize
+    ensures { λ r. ⌜ r ≡ faultlessOf answer «n» ⌝ }
+{
+    match answer {
+        JudgeAnswer::Done => n,
+        JudgeAnswer::Refused(refusal) => {
+            let fault = refusal.fault;
+            if faults::number_of(fault) == JOIN {
+                return n;
+            }
+            0
+        }
+    }
+}
 
 // A tetrahedron's four numbers, from an index on.
 fn put_tet(out: &mut [u16], at: usize, t: Tet)
@@ -63,7 +80,7 @@ fn put_element(numbers: &[u16], cuts: &[u8; 1536], out: &mut [u16], at: usize) -
 }
 
 // How many tetrahedra the first n elements make.
-fn count_all(table: &[u16], n: usize) -> usize
+pub fn count_all(table: &[u16], n: usize) -> usize
     requires { ⌜ WholeTable (now table) n ⌝ }
     ensures { λ r. ⌜ Counted (cutMesh (firstElements (now (table .entry)) n)) n r ⌝ }
 {
@@ -94,7 +111,7 @@ fn cut_each(table: &[u16], n: usize, cuts: &[u8; 1536], out: &mut [u16])
 }
 
 // The cut of the first n elements, from the front on.
-fn cut_all(table: &[u16], n: usize, out: &mut [u16])
+pub fn cut_all(table: &[u16], n: usize, out: &mut [u16])
     requires { ⌜ WholeTable (now table) n ⌝ }
     requires { ⌜ tetrahedronWidth * length (cutMesh (firstElements (now table) n)) ≤ length (now out) ⌝ }
     ensures { λ _. ⌜ now (out .exit) ≡ laid (flat (cutMesh (firstElements (now (table .entry)) n))) (now (out .entry)) ⌝ }
@@ -104,7 +121,7 @@ fn cut_all(table: &[u16], n: usize, out: &mut [u16])
 }
 
 // How many numbers the tetrahedra take.
-fn numbers_of(count: usize) -> usize
+pub fn numbers_of(count: usize) -> usize
     requires { ⌜ count ≤ 6144 ⌝ }
     ensures { λ r. ⌜ r ≡ tetrahedronWidth * count ⌝ }
 {
@@ -112,7 +129,7 @@ fn numbers_of(count: usize) -> usize
 }
 
 // How many elements are stored: all, or none under a refusal.
-fn stored_under(answer: JudgeAnswer, n: usize) -> usize
+pub fn stored_under(answer: JudgeAnswer, n: usize) -> usize
     ensures { λ r. ⌜ r ≡ storedUnder answer «n» ⌝ }
 {
     match answer {
@@ -122,24 +139,11 @@ fn stored_under(answer: JudgeAnswer, n: usize) -> usize
 }
 
 // The answer of cutting that goes with an answer of judging.
-fn with_count(answer: JudgeAnswer, count: usize) -> CutAnswer
+pub fn with_count(answer: JudgeAnswer, count: usize) -> CutAnswer
     ensures { λ r. ⌜ r ≡ withCount answer «count» ⌝ }
 {
     match answer {
         JudgeAnswer::Done => CutAnswer::Done(CutCounts { tetrahedra: count }),
         JudgeAnswer::Refused(refusal) => CutAnswer::Refused(refusal),
     }
-}
-
-// Cuts a table of faultless records: its pairs are judged, then the output's room; a refusal stores nothing.
-pub fn cut_records(table: &[u16], n: usize, out: &mut [u16]) -> CutAnswer
-    requires { ⌜ Numbered (now table) n ⌝ }
-    ensures { λ r. ⌜ PairsCut (now (table .entry)) «n» (now (out .entry)) r (now (out .exit)) ⌝ }
-{
-    let count = count_all(table, n);
-    let pairs = judge::judge_pairs(table, n);
-    let room = judge::judge_room(out.len(), numbers_of(count));
-    let answer = judge::first_refusal(pairs, room);
-    cut_all(table, stored_under(answer, n), out);
-    with_count(answer, count)
 }

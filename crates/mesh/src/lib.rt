@@ -1,20 +1,14 @@
-// Element tables: judged, cut, and counted by sign.
-ghost use Rattle.mesh.specs.Judge.{JudgeDone};
+// Element tables: cut, and counted by sign.
 ghost use Rattle.mesh.specs.Cutting.{CutDone};
 ghost use Rattle.mesh.specs.Signs.{SignDone};
 use faults::Refusal;
+use judging::JudgeAnswer;
+use judging::judge_mesh;
 
+mod answers;
 mod blocks;
 mod cutting;
-mod fit;
-mod judge;
 mod signs;
-
-// What judging a table answers.
-pub enum JudgeAnswer {
-    Done,
-    Refused(Refusal),
-}
 
 // What an accepted cut reports.
 pub struct CutCounts {
@@ -41,13 +35,6 @@ pub enum SignAnswer {
     Refused(Refusal),
 }
 
-// Judges a table: MANY, ROOM, each record in order, each pair by lowest j and then lowest i.
-pub fn judge_mesh(vertex_count: usize, element_count: usize, elements: &[u16]) -> JudgeAnswer
-    ensures { λ r. ⌜ JudgeDone «vertex_count» «element_count» (now (elements .entry)) r ⌝ }
-{
-    judge::judge(vertex_count, element_count, elements)
-}
-
 // Cuts a table into tetrahedra: judges it, then the output's room; a refusal writes nothing.
 pub fn cut_mesh(
     vertex_count: usize,
@@ -57,10 +44,13 @@ pub fn cut_mesh(
 ) -> CutAnswer
     ensures { λ r. ⌜ CutDone «vertex_count» «element_count» (now (elements .entry)) (now (tetrahedra .entry)) r (now (tetrahedra .exit)) ⌝ }
 {
-    match judge::judge_records(vertex_count, element_count, elements) {
-        JudgeAnswer::Refused(refusal) => CutAnswer::Refused(refusal),
-        JudgeAnswer::Done => cutting::cut_records(elements, element_count, tetrahedra),
-    }
+    let judged = judge_mesh(vertex_count, element_count, elements);
+    let n = cutting::faultless(judged, element_count);
+    let count = cutting::count_all(elements, n);
+    let room = answers::judge_room(tetrahedra.len(), cutting::numbers_of(count));
+    let answer = answers::first_refusal(judged, room);
+    cutting::cut_all(elements, cutting::stored_under(answer, n), tetrahedra);
+    cutting::with_count(answer, count)
 }
 
 // Counts the signs of a cut: judges the table, then the vertex table, ROOM and RANGE.
@@ -72,7 +62,7 @@ pub fn sign_report(
 ) -> SignAnswer
     ensures { λ r. ⌜ SignDone «vertex_count» «element_count» (now (elements .entry)) (now (vertices .entry)) r ⌝ }
 {
-    match judge::judge(vertex_count, element_count, elements) {
+    match judge_mesh(vertex_count, element_count, elements) {
         JudgeAnswer::Refused(refusal) => SignAnswer::Refused(refusal),
         JudgeAnswer::Done => match signs::judge_vertices(vertices, vertex_count) {
             JudgeAnswer::Refused(refusal) => SignAnswer::Refused(refusal),

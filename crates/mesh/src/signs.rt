@@ -1,11 +1,11 @@
 // The first vertex beyond the limits, and the signs of a table's tetrahedra, counted.
-use crate::JudgeAnswer;
 use crate::SignCounts;
+use crate::answers;
 use crate::blocks;
 use crate::blocks::Tet;
-use crate::judge;
 use faults::Fault;
 use faults::Refusal;
+use judging::JudgeAnswer;
 use volume::Point;
 use volume::VolumeAnswer;
 ghost use mathlib.Core.Path.{_≡_};
@@ -101,9 +101,9 @@ pub fn judge_vertices(vertices: &[i32], n: usize) -> JudgeAnswer
     requires { ⌜ n ≤ 4096 ⌝ }
     ensures { λ r. ⌜ r ≡ verticesAnswer (now (vertices .entry)) n ⌝ }
 {
-    let room = judge::judge_room(vertices.len(), numbers_of(n));
+    let room = answers::judge_room(vertices.len(), numbers_of(n));
     let range = judge_range(vertices, n);
-    judge::first_refusal(room, range)
+    answers::first_refusal(room, range)
 }
 
 // The sixfold volume of a tetrahedron; no point of it is refused.

@@ -1,8 +1,8 @@
 // Tables judged, cut and counted by sign, printed as the library answers them: a line is the answer's numbers, or `NO number place second`.
 use faults::Refusal;
+use judging::JudgeAnswer;
 use libc::STDOUT_FILENO;
 use mesh::CutAnswer;
-use mesh::JudgeAnswer;
 use mesh::SignAnswer;
 
 fn print_number(n: usize) {
@@ -26,7 +26,7 @@ fn print_done() {
 
 fn judge(name: &[u8], vertices: usize, count: usize, table: &[u16]) {
     io::write_all(STDOUT_FILENO, name);
-    match mesh::judge_mesh(vertices, count, table) {
+    match judging::judge_mesh(vertices, count, table) {
         JudgeAnswer::Done => print_done(),
         JudgeAnswer::Refused(refusal) => print_refusal(refusal),
     }

@@ -18,12 +18,12 @@ use Rattle.solids.specs.Solids.{Vertex, Tet, tet, Element, ofTet}
 use Rattle.solids.specs.Cut.{cutMesh}
 use Rattle.records.specs.Record.{firstElements}
 use Rattle.records.specs.Limits.{tetrahedronWidth}
-use Rattle.mesh.specs.declared.JudgeAnswer.the-variants as judge
+use Rattle.judging.specs.declared.JudgeAnswer.the-variants as judge
 use Rattle.mesh.specs.declared.CutAnswer.the-variants as cut
-use Rattle.mesh.specs.Judge.{judged, JudgeDone}
+use Rattle.judging.specs.Judge.{judged, JudgeDone}
 use Rattle.mesh.specs.Cutting.{flat, cutOf, CutDone}
 use Rattle.mesh.specs.Signs.{isAccepted}
-use Rattle.mesh.proofs.Theorems.{accepted-elements}
+use Rattle.judging.proofs.Theorems.{accepted-elements}
 use Rattle.promises.specs.Tables.{tetrahedraIn}
 
 -- ---- verdicts

@@ -22,10 +22,10 @@ use Rattle.records.specs.Record.{width, asRecord, elementOf, recordFinding, rec
 use Rattle.records.specs.Loops.{isNumber}
 use Rattle.records.proofs.Theorems.{clean-faultless, faultless-clean, first-are, first-all, gathered-length, gathered-at}
 use Rattle.records.specs.Limits.{elementLimit, tetrahedronWidth}
-use Rattle.mesh.specs.Judge.{judged}
-use Rattle.mesh.specs.Acceptance.{Acceptable}
+use Rattle.judging.specs.Judge.{judged}
+use Rattle.judging.specs.Acceptance.{Acceptable}
 use Rattle.mesh.specs.Cutting.{flat, cutOf}
-use Rattle.mesh.proofs.Theorems.{accepted-elements, accepted-proper, accepted-fitting, accepted-acceptable, acceptable-accepted}
+use Rattle.judging.proofs.Theorems.{accepted-elements, accepted-proper, accepted-fitting, accepted-acceptable, acceptable-accepted}
 use Rattle.promises.specs.Tables.{asTable, BeginsWith, tetrahedraIn}
 use Rattle.records.proofs.TetrahedronRecord.{record-wide, record-element, isGood, record-faultless}
 use Rattle.promises.proofs.AnswerLaws.{accepted-first, DoneCut, done-tetrahedra}

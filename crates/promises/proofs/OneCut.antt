@@ -18,10 +18,10 @@ use Rattle.records.specs.Record.{firstElements}
 use Rattle.records.specs.Limits.{vertexWidth}
 use Rattle.mesh.specs.declared.SignCounts.{SignCounts}
 use Rattle.mesh.specs.declared.SignAnswer.the-variants as sign
-use Rattle.mesh.specs.Judge.{judged}
+use Rattle.judging.specs.Judge.{judged}
 use Rattle.mesh.specs.Signs.{signCounts, badPoint, signsOf, SignDone}
 use Rattle.mesh.specs.SignLoops.{ofCounts}
-use Rattle.mesh.proofs.Theorems.{accepted-elements}
+use Rattle.judging.proofs.Theorems.{accepted-elements}
 use Rattle.mesh.proofs.SignLaws.{counts-add, from-list}
 use Rattle.promises.proofs.AnswerLaws.{never-both}
 

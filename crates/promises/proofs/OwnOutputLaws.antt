@@ -15,9 +15,9 @@ use Rattle.volume.specs.Volume.{inRange, pointInRange, pointAt}
 use Rattle.solids.specs.Solids.{Vertex, Tet}
 use Rattle.solids.specs.Cut.{cutMesh}
 use Rattle.solids.specs.Listings.{asElement}
-use Rattle.mesh.specs.Judge.{judged}
+use Rattle.judging.specs.Judge.{judged}
 use Rattle.mesh.specs.Cutting.{cutOf}
-use Rattle.mesh.proofs.AcceptedLaws.{accepted-clean, accepted-vertices}
+use Rattle.judging.proofs.AcceptedLaws.{accepted-clean, accepted-vertices}
 use Rattle.text.specs.Constants.{fileLimit, vertexWidth, elementWidth, elementLimit}
 use Rattle.text.specs.File.{fileVerdict}
 use Rattle.text.specs.Records.{storedVertices, storedElements}

@@ -23,7 +23,7 @@ use Rattle.records.specs.Record.{usedOf, recordFinding, recordAt}
 use Rattle.records.specs.Loops.{isNumber}
 use Rattle.records.proofs.RecordLaws.{clean-faultless, faultless-clean}
 use Rattle.mesh.specs.Signs.{acceptedTables}
-use Rattle.mesh.proofs.AcceptedLaws.{sign-accepted}
+use Rattle.mesh.proofs.SignedLaws.{sign-accepted}
 use Rattle.text.specs.Constants.{fileLimit, vertexLimit, vertexWidth, elementWidth}
 use Rattle.text.specs.File.{start}
 use Rattle.text.specs.Records.{roomsOf, verdictOf, ReadDone}

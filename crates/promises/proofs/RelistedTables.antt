@@ -30,14 +30,14 @@ use Rattle.solids.proofs.RelistingLaws.{alike-there, alike-home}
 use Rattle.solids.proofs.Theorems.{proper-relisted, relisting-fitting, relisting-cut}
 use Rattle.records.specs.Record.{width, usedOf, elementOf, recordFinding, recordAt, elementAt, firstElements}
 use Rattle.records.specs.Limits.{elementLimit, tetrahedronWidth, vertexLimit, vertexWidth}
-use Rattle.mesh.specs.Judge.{isFault, faultIn, badRecord, pairFits, misfit, badElement, judged, JudgeDone}
-use Rattle.mesh.specs.declared.JudgeAnswer.{JudgeAnswer}
+use Rattle.judging.specs.Judge.{isFault, faultIn, badRecord, pairFits, misfit, badElement, judged, JudgeDone}
+use Rattle.judging.specs.declared.JudgeAnswer.{JudgeAnswer}
 use Rattle.mesh.specs.declared.CutAnswer.{CutAnswer}
 use Rattle.mesh.specs.declared.SignAnswer.{SignAnswer}
 use Rattle.mesh.specs.Cutting.{flat, cutOf, CutDone}
 use Rattle.mesh.specs.Signs.{isPositive, sound, signCounts, badPoint, signsOf, SignDone, isAccepted}
-use Rattle.mesh.proofs.JudgeLaws.{record-clean}
-use Rattle.mesh.proofs.AcceptanceLaws.{clean-proper}
+use Rattle.judging.proofs.JudgeLaws.{record-clean}
+use Rattle.judging.proofs.AcceptanceLaws.{clean-proper}
 use Rattle.records.proofs.Theorems.{first-each}
 use Rattle.promises.specs.Tables.{RecordRelisted, TableRelisted}
 use Rattle.promises.proofs.AnswerLaws.{never-both}

@@ -26,12 +26,12 @@ use Rattle.solids.proofs.Theorems.{order-names, reordered-fitting, reordered-ma
 use Rattle.records.specs.Record.{width, elementOf, recordFinding, recordAt, elementAt, firstElements}
 use Rattle.records.proofs.Theorems.{record-length, first-length, first-at, first-are, gathered-length, gathered-at}
 use Rattle.records.specs.Limits.{tetrahedronWidth}
-use Rattle.mesh.specs.Judge.{judged}
-use Rattle.mesh.specs.Acceptance.{Acceptable}
+use Rattle.judging.specs.Judge.{judged}
+use Rattle.judging.specs.Acceptance.{Acceptable}
 use Rattle.mesh.specs.Cutting.{flat, cutOf}
 use Rattle.mesh.specs.Signs.{isAccepted}
-use Rattle.mesh.proofs.AcceptanceLaws.{clean-proper, acceptable-proper}
-use Rattle.mesh.proofs.Theorems.{accepted-elements, accepted-acceptable, acceptable-accepted}
+use Rattle.judging.proofs.AcceptanceLaws.{clean-proper, acceptable-proper}
+use Rattle.judging.proofs.Theorems.{accepted-elements, accepted-acceptable, acceptable-accepted}
 use Rattle.promises.specs.Tables.{TableReordered, reordered, blocksInOrder}
 use Rattle.promises.proofs.AnswerLaws.{is-accepted, DoneCut}
 

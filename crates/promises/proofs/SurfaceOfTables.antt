@@ -18,10 +18,10 @@ use Rattle.solids.specs.Surface.{back, times, owners, SurfaceCut, CutAlike}
 use Rattle.solids.proofs.Theorems.{fits-sym, cut-alike, own-vertices, cut-of}
 use Rattle.records.specs.Record.{usedOf, elementOf, recordAt, elementAt, firstElements}
 use Rattle.records.proofs.Theorems.{first-each, first-member}
-use Rattle.mesh.specs.Judge.{pairFits, judged}
-use Rattle.mesh.specs.Acceptance.{Acceptable}
-use Rattle.mesh.proofs.AcceptanceLaws.{fitting-pairs, acceptable-proper}
-use Rattle.mesh.proofs.Theorems.{accepted-elements, accepted-acceptable, accepted-surface}
+use Rattle.judging.specs.Judge.{pairFits, judged}
+use Rattle.judging.specs.Acceptance.{Acceptable}
+use Rattle.judging.proofs.AcceptanceLaws.{fitting-pairs, acceptable-proper}
+use Rattle.judging.proofs.Theorems.{accepted-elements, accepted-acceptable, accepted-surface}
 use Rattle.promises.specs.Tables.{tetrahedraIn, cutSurface, SurfaceIsCut}
 use Rattle.promises.proofs.AnswerLaws.{DoneCut, done-tetrahedra}
 

@@ -26,18 +26,19 @@ use Rattle.records.specs.Record.{width, kindOf, usedOf, solidOf, elementOf, rec
 use Rattle.records.specs.Loops.{isNumber, Whole, WholeTable}
 use Rattle.records.proofs.Theorems.{whole-proper}
 use Rattle.records.specs.Limits.{elementLimit}
-use Rattle.mesh.specs.declared.JudgeAnswer.{JudgeAnswer}
-use Rattle.mesh.specs.declared.JudgeAnswer.the-variants as judge
+use Rattle.judging.specs.declared.JudgeAnswer.{JudgeAnswer}
+use Rattle.judging.specs.declared.JudgeAnswer.the-variants as judge
 use Rattle.mesh.specs.declared.CutCounts.{CutCounts}
 use Rattle.mesh.specs.declared.CutAnswer.{CutAnswer}
 use Rattle.mesh.specs.declared.CutAnswer.the-variants as answer
 use Rattle.mesh.specs.declared.SignCounts.{SignCounts}
 use Rattle.mesh.specs.declared.SignAnswer.{SignAnswer}
 use Rattle.mesh.specs.declared.SignAnswer.the-variants as sign
-use Rattle.mesh.specs.Judge.{judged, JudgeDone}
+use Rattle.judging.specs.Judge.{judged, JudgeDone}
 use Rattle.mesh.specs.Cutting.{flat, cutOf, CutDone}
 use Rattle.mesh.specs.Signs.{SignDone, isAccepted}
-use Rattle.mesh.proofs.Theorems.{judge-unique, cut-unique, sign-unique, accepted-proper, accepted-surface}
+use Rattle.judging.proofs.Theorems.{judge-unique, accepted-proper, accepted-surface}
+use Rattle.mesh.proofs.Theorems.{cut-unique, sign-unique}
 use Rattle.promises.specs.Tables.{RecordRelisted, TableRelisted, relistedRecord, relistedTable, TableReordered, reordered, blocksInOrder, asTable, BeginsWith, tetrahedraIn, SurfaceIsCut}
 use Rattle.promises.proofs.AnswerLaws as AnswerLaws
 use Rattle.promises.proofs.RelistedTables as RelistedTables

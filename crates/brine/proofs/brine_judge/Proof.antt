@@ -1,4 +1,4 @@
--- `brine::brine_judge` tells what `mesh::judge_mesh` answers. Assumes nothing.
+-- `brine::brine_judge` tells what `judging::judge_mesh` answers. Assumes nothing.
 use mathlib.Core.Path.{_≡_}
 use lib.ListN.{length}
 use Rattle.brine.proofs.FrontLaws.{answered}

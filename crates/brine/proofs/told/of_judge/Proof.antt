@@ -1,7 +1,7 @@
 -- `brine::told::of_judge` tells what judging answers. Assumes nothing.
 use mathlib.Core.Path.{refl, ap}
 use Rattle.faults.specs.Refusals.{answerOf}
-use Rattle.mesh.specs.Judge.{judgeVerdict}
+use Rattle.judging.specs.Judge.{judgeVerdict}
 use Rattle.brine.proofs.FrontLaws.{fewer}
 use borrow.Author.Needs.{needs}
 use Rattle.brine.proofs.told.of_judge.Statement.{statement}

@@ -1,0 +1,151 @@
+-- `judging::fit::chains::fits_all` meets its contract. The loop's invariant: the elements that hold a vertex of the places before p are marked, and those that hold two fit j.
+-- The measure is how many places are left. Assumes nothing.
+use Prim.Native.Nat.{ℕ, _+_, _*_, _/_, _-_, _≤_, _<_}
+use native.Mathlib.Nat.{le-trans}
+use native.Mathlib.Omega.{arith}
+use mathlib.Core.Path.{_≡_, refl, ap, _∙_}
+use mathlib.Core.Bool.{Bool, true, false, not}
+use mathlib.Core.List.{List}
+use borrow.Author.Needs.{needs}
+use borrow.Author.Tests.{eqb-true, eqb-false, lt-ltb, not-true, not-false}
+use denote.Ref.{now}
+use lib.Dec.{eqb, ltb}
+use lib.ListN.{getD}
+use Rattle.records.specs.Record.{width, kindOf, recordAt}
+use Rattle.records.specs.Loops.{WholeTable}
+use Rattle.records.proofs.RecordLaws.{kind-small}
+use Rattle.judging.specs.Judge.{pairFits, misfit}
+use Rattle.judging.specs.FitLoops.{holds, Seen, Walked}
+use Rattle.judging.proofs.ChainLaws.{seen-start, misfit-none}
+use Rattle.judging.proofs.fit.chains.fits_all.Statement.{statement}
+use Rattle.judging.proofs.fit.chains.fits_all.Tie as tie
+
+record Passed (t : List ℕ) (j p : ℕ) (marks : List ℕ) : Type 0 where
+  high : 0 < p
+  seen : Seen t j marks
+  once : (q : ℕ) → 0 < q → q < p → (x : ℕ) → x < width * j → holds t (getD t (width * j + q) 0) x ≡ true → 0 < getD marks (x / width) 0
+  twice : (q r : ℕ) → 0 < q → q < r → r < p → (x y : ℕ) → x < width * j → y < width * j → x / width ≡ y / width
+      → holds t (getD t (width * j + q) 0) x ≡ true → holds t (getD t (width * j + r) 0) y ≡ true → pairFits t (y / width) j ≡ true
+
+passed-more : {t : List ℕ} {j p : ℕ} {old new : List ℕ} {b : Bool} → Passed t j p old → Walked t j (getD t (width * j + p) 0) old new b → b ≡ true → Passed t j (p + 1) new
+passed-more {t} {j} {p} {old} {new} w k e = record {
+  high = omega arith;
+  seen = k .seen;
+  once = λ q h l. one q h l (eqb q p) refl;
+  twice = λ q r h l m. two q r h l m (eqb r p) refl;
+}
+  where
+    one : (q : ℕ) → 0 < q → q < p + 1 → (d : Bool) → eqb q p ≡ d → (x : ℕ) → x < width * j → holds t (getD t (width * j + q) 0) x ≡ true → 0 < getD new (x / width) 0
+    one q h l true z x m f = k .marked e x m (rw (eqb-true q p z) at f)
+    one q h l false z x m f = let n = eqb-false q p z in le-trans (w .once q h (omega arith) x m f) (k .grown (x / width))
+
+    two : (q r : ℕ) → 0 < q → q < r → r < p + 1 → (d : Bool) → eqb r p ≡ d → (x y : ℕ) → x < width * j → y < width * j → x / width ≡ y / width
+        → holds t (getD t (width * j + q) 0) x ≡ true → holds t (getD t (width * j + r) 0) y ≡ true → pairFits t (y / width) j ≡ true
+    two q r h l m true z x y a b o f g =
+        let u = eqb-true r p z in
+        k .again e y b (rw u at g) (rw o at (w .once q h (omega arith) x a f))
+    two q r h l m false z x y a b o f g = let n = eqb-false r p z in w .twice q r h l (omega arith) x y a b o f g
+
+misfit-here : {t : List ℕ} {j v : ℕ} {old new : List ℕ} {r : Bool} → Walked t j v old new r → r ≡ false → false ≡ not (ltb 0 (misfit t j))
+misfit-here {t} {j} k e = rw (lt-ltb 0 (misfit t j) (k .bad e))
+
+none-left : {t : List ℕ} {j p k : ℕ} {marks : List ℕ} → Passed t j p marks → WholeTable t (j + 1) → k ≡ kindOf (recordAt t j) → k < p → true ≡ not (ltb 0 (misfit t j))
+none-left {t} {j} {p} w whole e h = rw (misfit-none t j whole (λ q r l m n. w .twice q r l m (omega arith)))
+
+-- the kind of element j, which is at most 8
+kind-here : (t : List ℕ) (j : ℕ) {k f : ℕ} {r : List ℕ} → k ≡ f → f ≡ kindOf r → r ≡ recordAt t j → k ≡ kindOf (recordAt t j)
+kind-here t j a b e = a ∙ b ∙ ap kindOf e
+
+few-corners : (t : List ℕ) (j : ℕ) {k : ℕ} → WholeTable t (j + 1) → k ≡ kindOf (recordAt t j) → k ≤ 8
+few-corners t j w e = rw e (kind-small (kindOf (recordAt t j)) (w .whole j (omega arith) .kind))
+
+abbrev Inv-loop : tie.InvT-loop
+Inv-loop table j heads links kind start seen₀ p₀ seen p = Passed table j p seen
+
+abbrev μ-loop : tie.MeasureT-loop
+μ-loop table j heads links kind start seen₀ p₀ seen p = kind + 1 - p
+
+record-at-requires : tie.Need-record-at-requires Inv-loop μ-loop
+record-at-requires c κs = search needs
+
+kind-of-requires : tie.Need-kind-of-requires Inv-loop μ-loop
+kind-of-requires c κs = search needs
+
+wide-requires : tie.Need-wide-requires Inv-loop μ-loop
+wide-requires c κs = search needs
+
+mul-start : tie.Need-mul-start Inv-loop μ-loop
+mul-start c = omega (arith, c .before .before .before .before .pre .table .table .few)
+
+loop-holds : tie.Need-loop-holds Inv-loop μ-loop
+loop-holds c =
+    let a = c .before .before .before .before .args in
+    record { high = omega arith; seen = seen-start (now (a .table)) (a .j); once = λ q h l. absurd (omega arith); twice = λ q r h l m. absurd (omega arith) }
+
+add-x : tie.Need-add-x Inv-loop μ-loop
+add-x c =
+    let h = few-corners (now (c .before .before .before .before .before .before .args .table)) (c .before .before .before .before .before .before .args .j) (c .before .before .before .before .before .before .pre .table .table) (kind-here (now (c .before .before .before .before .before .before .args .table)) (c .before .before .before .before .before .before .args .j) (c .before .before .wide .ensures) (c .before .before .before .kind-of .ensures) (c .before .before .before .before .record-at .ensures)) in
+    omega (arith, c .before .before .before .before .before .before .pre .table .table .few)
+
+mul-chain-fits : tie.Need-mul-chain-fits Inv-loop μ-loop
+mul-chain-fits c =
+    let h = few-corners (now (c .before .before .before .before .before .before .args .table)) (c .before .before .before .before .before .before .args .j) (c .before .before .before .before .before .before .pre .table .table) (kind-here (now (c .before .before .before .before .before .before .args .table)) (c .before .before .before .before .before .before .args .j) (c .before .before .wide .ensures) (c .before .before .before .kind-of .ensures) (c .before .before .before .before .record-at .ensures)) in
+    omega (arith, c .before .before .before .before .before .before .pre .table .table .few)
+
+shared-slice-read-chain-fits : tie.Need-shared-slice-read-chain-fits Inv-loop μ-loop
+shared-slice-read-chain-fits c =
+    let h = few-corners (now (c .before .before .before .before .before .before .before .args .table)) (c .before .before .before .before .before .before .before .args .j) (c .before .before .before .before .before .before .before .pre .table .table) (kind-here (now (c .before .before .before .before .before .before .before .args .table)) (c .before .before .before .before .before .before .before .args .j) (c .before .before .before .wide .ensures) (c .before .before .before .before .kind-of .ensures) (c .before .before .before .before .before .record-at .ensures)) in
+    omega (arith, c .before .before .before .before .before .before .before .pre .table .table .long)
+
+chain-fits-requires : tie.Need-chain-fits-requires Inv-loop μ-loop
+chain-fits-requires c κs =
+    let a = c .before .before .before .before .before .before .before .before .args in
+    let p = c .before .before .before .before .before .before .before .before .pre in
+    let l = c .before .before .before .loop in
+    let h = few-corners (now (c .before .before .before .before .before .before .before .before .args .table)) (c .before .before .before .before .before .before .before .before .args .j) (c .before .before .before .before .before .before .before .before .pre .table .table) (kind-here (now (c .before .before .before .before .before .before .before .before .args .table)) (c .before .before .before .before .before .before .before .before .args .j) (c .before .before .before .before .wide .ensures) (c .before .before .before .before .before .kind-of .ensures) (c .before .before .before .before .before .before .record-at .ensures)) in
+    let k : 0 < l .p = l .inv .high in
+    let n : l .p ≤ c .before .before .before .before .wide .result = c .before .before .loop-test .taken in
+    record {
+      table = p .table .table;
+      low = p .table .low (width * a .j + l .p) (omega arith) (omega arith);
+      filed = p .filed;
+      seen = l .inv .seen;
+    }
+
+returns : tie.Need-returns Inv-loop μ-loop
+returns c = misfit-here (c .before .chain-fits .ensures) (not-true (c .before .chain-fits .result) (c .if1 .taken))
+
+add-p : tie.Need-add-p Inv-loop μ-loop
+add-p c =
+    let h = few-corners (now (c .before .before .before .before .before .before .before .before .before .before .args .table)) (c .before .before .before .before .before .before .before .before .before .before .args .j) (c .before .before .before .before .before .before .before .before .before .before .pre .table .table) (kind-here (now (c .before .before .before .before .before .before .before .before .before .before .args .table)) (c .before .before .before .before .before .before .before .before .before .before .args .j) (c .before .before .before .before .before .before .wide .ensures) (c .before .before .before .before .before .before .before .kind-of .ensures) (c .before .before .before .before .before .before .before .before .record-at .ensures)) in
+    omega arith
+
+loop-less : tie.Need-loop-less Inv-loop μ-loop
+loop-less c = omega arith
+
+loop-again : tie.Need-loop-again Inv-loop μ-loop
+loop-again c = passed-more (c .before .before .before .before .before .loop .inv) (c .before .chain-fits .ensures) (not-false (c .before .chain-fits .result) (c .if1 .left))
+
+returns-2 : tie.Need-returns-2 Inv-loop μ-loop
+returns-2 c = none-left (c .before .loop .inv) (c .before .before .before .before .before .before .pre .table .table) (kind-here (now (c .before .before .before .before .before .before .args .table)) (c .before .before .before .before .before .before .args .j) (c .before .before .wide .ensures) (c .before .before .before .kind-of .ensures) (c .before .before .before .before .record-at .ensures)) (c .loop-test .left)
+
+pub fits-all-spec : {M : Type 1} → statement M
+fits-all-spec =
+    tie.close
+    (tie.spec
+    Inv-loop
+    μ-loop
+    record-at-requires
+    kind-of-requires
+    wide-requires
+    mul-start
+    loop-holds
+    add-x
+    mul-chain-fits
+    shared-slice-read-chain-fits
+    chain-fits-requires
+    returns
+    add-p
+    loop-less
+    loop-again
+    returns-2)

@@ -1,0 +1,94 @@
+// The places of a table by their vertices: for each vertex the chain of the places that hold it, so that an element meets only those it has a vertex in common with.
+ghost use mathlib.Core.Path.{_≡_};
+ghost use mathlib.Core.Bool.{not};
+ghost use Prim.Native.Nat.{_+_, _*_, _<_};
+ghost use lib.Dec.{ltb};
+ghost use Rattle.records.specs.Record.{width};
+ghost use Rattle.judging.specs.Judge.{misfit};
+ghost use Rattle.judging.specs.FitLoops.{Filed, Meeting, Met, Walking, Walked, Joining};
+use crate::fit::pair;
+use records::WIDTH;
+
+// A number of a table as an index.
+fn wide(number: u16) -> usize
+    ensures { λ r. ⌜ r ≡ number ⌝ }
+{
+    number as usize
+}
+
+// Meets element i at one more vertex of element j: 1 marks that they met once, 2 that they fit, which is tested when they meet again.
+fn fits_again(table: &[u16], i: usize, j: usize, seen: &mut [u8; 1024]) -> bool
+    requires { ⌜ Meeting (now table) i j (now seen) ⌝ }
+    ensures { λ r. ⌜ Met (now (table .entry)) i j (now (seen .entry)) (now (seen .exit)) r ⌝ }
+{
+    if seen[i] == 0 {
+        seen[i] = 1;
+        return true;
+    }
+    if 1 < seen[i] {
+        return true;
+    }
+    if !pair::pair_fits(records::record_at(table, i), records::record_at(table, j)) {
+        return false;
+    }
+    seen[i] = 2;
+    true
+}
+
+// Meets each element before j that holds the vertex; false where one of them does not fit j.
+fn chain_fits(
+    table: &[u16],
+    j: usize,
+    vertex: u16,
+    heads: &[u16; 4097],
+    links: &[u16; 9216],
+    seen: &mut [u8; 1024],
+) -> bool
+    requires { ⌜ Walking (now table) j vertex (now heads) (now links) (now seen) ⌝ }
+    ensures { λ r. ⌜ Walked (now (table .entry)) j vertex (now (seen .entry)) (now (seen .exit)) r ⌝ }
+{
+    let v = wide(vertex);
+    let mut x = wide(heads[v]);
+    while 0 < x {
+        if !fits_again(table, x / WIDTH, j, seen) {
+            return false;
+        }
+        x = wide(links[x]);
+    }
+    true
+}
+
+// Element j fits each element before it.
+pub fn fits_all(table: &[u16], j: usize, heads: &[u16; 4097], links: &[u16; 9216]) -> bool
+    requires { ⌜ Joining (now table) j (now heads) (now links) ⌝ }
+    ensures { λ r. ⌜ r ≡ not (ltb 0 (misfit (now (table .entry)) j)) ⌝ }
+{
+    let kind = wide(records::kind_of(records::record_at(table, j)));
+    let start = WIDTH * j;
+    let mut seen = [0u8; 1024];
+    let mut p = 1;
+    while p <= kind {
+        let x = start + p;
+        if !chain_fits(table, j, table[x], heads, links, &mut seen) {
+            return false;
+        }
+        p += 1;
+    }
+    true
+}
+
+// Puts the places of element j at the front of the chains of their vertices.
+pub fn file_places(table: &[u16], j: usize, heads: &mut [u16; 4097], links: &mut [u16; 9216])
+    requires { ⌜ Joining (now table) j (now heads) (now links) ⌝ }
+    ensures { λ _. ⌜ Filed (now (table .entry)) (width * (j + 1)) (now (heads .exit)) (now (links .exit)) ⌝ }
+{
+    let start = WIDTH * j;
+    let end = start + WIDTH;
+    let mut x = start + 1;
+    while x < end {
+        let v = wide(table[x]);
+        links[x] = heads[v];
+        heads[v] = x as u16;
+        x += 1;
+    }
+}

@@ -1,0 +1,100 @@
+// Edges by their places: whether two corners of an element are the ends of one of its edges.
+ghost use mathlib.Core.Path.{_≡_};
+ghost use mathlib.Core.List.{[], _∷_};
+ghost use Prim.Native.Nat.{_<_};
+ghost use lib.ListN.{getD};
+ghost use Rattle.solids.specs.Solids.{element};
+ghost use Rattle.solids.specs.Cut.{placeOf};
+ghost use Rattle.solids.specs.Fit.{hasEdge};
+ghost use Rattle.judging.specs.FitLoops.{joined, edgeRows, firstEdge, Ends};
+use solids::Solid;
+
+// For each solid nine rows of nine places, from 0: 1 where an edge joins the place of the row to that of the column.
+const EDGES: [[u8; 9]; 36] = [
+    [0, 0, 0, 0, 0, 0, 0, 0, 0],
+    [0, 0, 1, 1, 1, 0, 0, 0, 0],
+    [0, 1, 0, 1, 1, 0, 0, 0, 0],
+    [0, 1, 1, 0, 1, 0, 0, 0, 0],
+    [0, 1, 1, 1, 0, 0, 0, 0, 0],
+    [0, 0, 0, 0, 0, 0, 0, 0, 0],
+    [0, 0, 0, 0, 0, 0, 0, 0, 0],
+    [0, 0, 0, 0, 0, 0, 0, 0, 0],
+    [0, 0, 0, 0, 0, 0, 0, 0, 0],
+    [0, 0, 0, 0, 0, 0, 0, 0, 0],
+    [0, 0, 1, 0, 1, 1, 0, 0, 0],
+    [0, 1, 0, 1, 0, 1, 0, 0, 0],
+    [0, 0, 1, 0, 1, 1, 0, 0, 0],
+    [0, 1, 0, 1, 0, 1, 0, 0, 0],
+    [0, 1, 1, 1, 1, 0, 0, 0, 0],
+    [0, 0, 0, 0, 0, 0, 0, 0, 0],
+    [0, 0, 0, 0, 0, 0, 0, 0, 0],
+    [0, 0, 0, 0, 0, 0, 0, 0, 0],
+    [0, 0, 0, 0, 0, 0, 0, 0, 0],
+    [0, 0, 1, 1, 1, 0, 0, 0, 0],
+    [0, 1, 0, 1, 0, 1, 0, 0, 0],
+    [0, 1, 1, 0, 0, 0, 1, 0, 0],
+    [0, 1, 0, 0, 0, 1, 1, 0, 0],
+    [0, 0, 1, 0, 1, 0, 1, 0, 0],
+    [0, 0, 0, 1, 1, 1, 0, 0, 0],
+    [0, 0, 0, 0, 0, 0, 0, 0, 0],
+    [0, 0, 0, 0, 0, 0, 0, 0, 0],
+    [0, 0, 0, 0, 0, 0, 0, 0, 0],
+    [0, 0, 1, 0, 1, 1, 0, 0, 0],
+    [0, 1, 0, 1, 0, 0, 1, 0, 0],
+    [0, 0, 1, 0, 1, 0, 0, 1, 0],
+    [0, 1, 0, 1, 0, 0, 0, 0, 1],
+    [0, 1, 0, 0, 0, 0, 1, 0, 1],
+    [0, 0, 1, 0, 0, 1, 0, 1, 0],
+    [0, 0, 0, 1, 0, 0, 1, 0, 1],
+    [0, 0, 0, 0, 1, 1, 0, 1, 0],
+];
+
+// Where the rows of a solid start.
+fn first_edge(solid: Solid) -> usize
+    ensures { λ r. ⌜ r ≡ firstEdge solid ⌝ }
+{
+    match solid {
+        Solid::Tetrahedron => 0,
+        Solid::Pyramid => 9,
+        Solid::Prism => 18,
+        Solid::Hexahedron => 27,
+    }
+}
+
+// An entry of the table.
+fn edge_entry(row: usize, column: usize) -> u8
+    requires { ⌜ (row < 36) × (column < 9) ⌝ }
+    ensures { λ r. ⌜ r ≡ getD (getD edgeRows row []) column 0 ⌝ }
+{
+    EDGES[row][column]
+}
+
+// An edge joins the two places.
+fn are_joined(solid: Solid, p: usize, q: usize) -> bool
+    requires { ⌜ (p < 9) × (q < 9) ⌝ }
+    ensures { λ r. ⌜ r ≡ joined solid p q ⌝ }
+{
+    edge_entry(first_edge(solid) + p, q) == 1
+}
+
+// The place of a vertex among the corners.
+fn place_of(vertex: u16, corners: &[u16]) -> usize
+    ensures { λ r. ⌜ r ≡ placeOf vertex (now (corners .entry)) ⌝ }
+{
+    let mut i = 0;
+    while i < corners.len() {
+        if vertex == corners[i] {
+            return i + 1;
+        }
+        i += 1;
+    }
+    i
+}
+
+// Two corners of an element are the ends of one of its edges.
+pub fn has_edge(u: u16, v: u16, solid: Solid, corners: &[u16]) -> bool
+    requires { ⌜ Ends u v solid (now corners) ⌝ }
+    ensures { λ r. ⌜ r ≡ hasEdge (u ∷ v ∷ []) (element solid (now (corners .entry))) ⌝ }
+{
+    are_joined(solid, place_of(u, corners), place_of(v, corners))
+}

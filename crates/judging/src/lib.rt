@@ -1,0 +1,19 @@
+// Element tables, judged: the counts and lengths, each record, each pair.
+ghost use Rattle.judging.specs.Judge.{JudgeDone};
+use faults::Refusal;
+
+mod fit;
+mod judge;
+
+// What judging a table answers.
+pub enum JudgeAnswer {
+    Done,
+    Refused(Refusal),
+}
+
+// Judges a table: MANY, ROOM, each record in order, each pair by lowest j and then lowest i.
+pub fn judge_mesh(vertex_count: usize, element_count: usize, elements: &[u16]) -> JudgeAnswer
+    ensures { λ r. ⌜ JudgeDone «vertex_count» «element_count» (now (elements .entry)) r ⌝ }
+{
+    judge::judge(vertex_count, element_count, elements)
+}
