@@ -87,13 +87,13 @@ add-x c =
     let h = few-corners (now (c .before .before .before .before .before .before .args .table)) (c .before .before .before .before .before .before .args .j) (c .before .before .before .before .before .before .pre .table .table) (kind-here (now (c .before .before .before .before .before .before .args .table)) (c .before .before .before .before .before .before .args .j) (c .before .before .wide .ensures) (c .before .before .before .kind-of .ensures) (c .before .before .before .before .record-at .ensures)) in
     omega (arith, c .before .before .before .before .before .before .pre .table .table .few)
 
-mul-chain-fits : tie.Need-mul-chain-fits Inv-loop μ-loop
-mul-chain-fits c =
+mul-t13 : tie.Need-mul-t13 Inv-loop μ-loop
+mul-t13 c =
     let h = few-corners (now (c .before .before .before .before .before .before .args .table)) (c .before .before .before .before .before .before .args .j) (c .before .before .before .before .before .before .pre .table .table) (kind-here (now (c .before .before .before .before .before .before .args .table)) (c .before .before .before .before .before .before .args .j) (c .before .before .wide .ensures) (c .before .before .before .kind-of .ensures) (c .before .before .before .before .record-at .ensures)) in
     omega (arith, c .before .before .before .before .before .before .pre .table .table .few)
 
-shared-slice-read-chain-fits : tie.Need-shared-slice-read-chain-fits Inv-loop μ-loop
-shared-slice-read-chain-fits c =
+shared-slice-read-t15 : tie.Need-shared-slice-read-t15 Inv-loop μ-loop
+shared-slice-read-t15 c =
     let h = few-corners (now (c .before .before .before .before .before .before .before .args .table)) (c .before .before .before .before .before .before .before .args .j) (c .before .before .before .before .before .before .before .pre .table .table) (kind-here (now (c .before .before .before .before .before .before .before .args .table)) (c .before .before .before .before .before .before .before .args .j) (c .before .before .before .wide .ensures) (c .before .before .before .before .kind-of .ensures) (c .before .before .before .before .before .record-at .ensures)) in
     omega (arith, c .before .before .before .before .before .before .before .pre .table .table .long)
 
@@ -141,8 +141,8 @@ fits-all-spec =
     mul-start
     loop-holds
     add-x
-    mul-chain-fits
-    shared-slice-read-chain-fits
+    mul-t13
+    shared-slice-read-t15
     chain-fits-requires
     returns
     add-p
