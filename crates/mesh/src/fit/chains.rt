@@ -17,7 +17,7 @@ fn wide(number: u16) -> usize
     number as usize
 }
 
-// A vertex as an index into `heads`. An index x into the whole table, or into `links`, is no place of a solid and stays a plain number.
+// A vertex as an index of `heads`. An index x of the whole table, and so of `links`, is no place of a solid and stays a plain number.
 fn chain_of(vertex: Vertex) -> usize
     ensures { λ r. ⌜ r ≡ vertex .0 ⌝ }
 {
@@ -72,15 +72,15 @@ pub fn fits_all(table: &[u16], j: usize, heads: &[u16; 4097], links: &[u16; 9216
     ensures { λ r. ⌜ r ≡ not (ltb 0 (misfit (now (table .entry)) j)) ⌝ }
 {
     let kind = wide(records::kind_of(records::record_at(table, j)));
-    let start = WIDTH * j;
+    let start = WIDTH * j + 1;
+    let end = start + kind;
     let mut seen = [0u8; 1024];
-    let mut p = 1;
-    while p <= kind {
-        let x = start + p;
+    let mut x = start;
+    while x < end {
         if !chain_fits(table, j, Vertex(table[x]), heads, links, &mut seen) {
             return false;
         }
-        p += 1;
+        x += 1;
     }
     true
 }

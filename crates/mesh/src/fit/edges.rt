@@ -63,11 +63,12 @@ fn first_edge(solid: Solid) -> usize
     }
 }
 
-// An entry of the table.
-fn edge_entry(row: usize, column: usize) -> u8
-    requires { ⌜ (row < 36) × (column < 9) ⌝ }
-    ensures { λ r. ⌜ r ≡ getD (getD edgeRows row []) column 0 ⌝ }
+// The entry of a row of the table for a place.
+fn edge_entry(row: usize, place: Place) -> u8
+    requires { ⌜ (row < 36) × (place .0 < 9) ⌝ }
+    ensures { λ r. ⌜ r ≡ getD (getD edgeRows row []) (place .0) 0 ⌝ }
 {
+    let column = place.0 as usize;
     EDGES[row][column]
 }
 
@@ -76,7 +77,7 @@ fn are_joined(solid: Solid, p: Place, q: Place) -> bool
     requires { ⌜ (p .0 < 9) × (q .0 < 9) ⌝ }
     ensures { λ r. ⌜ r ≡ joined solid (p .0) (q .0) ⌝ }
 {
-    edge_entry(first_edge(solid) + p.0 as usize, q.0 as usize) == 1
+    edge_entry(first_edge(solid) + p.0 as usize, q) == 1
 }
 
 // The place of a vertex among the corners.

@@ -29,22 +29,18 @@ cast-edge-entry c = search needs
 add-edge-entry : tie.Need-add-edge-entry
 add-edge-entry c = let h = inside (c .before .before .args .solid) (c .before .first-edge .ensures) (c .before .before .pre .0) (c .before .before .pre .1) in omega arith
 
-cast-edge-entry-2 : tie.Need-cast-edge-entry-2
-cast-edge-entry-2 c = search needs
-
 edge-entry-requires : tie.Need-edge-entry-requires
-edge-entry-requires c κs = (inside (c .before .before .before .args .solid) (c .before .before .first-edge .ensures) (c .before .before .before .pre .0) (c .before .before .before .pre .1), c .before .before .before .pre .1)
+edge-entry-requires c κs = (inside (c .before .before .args .solid) (c .before .first-edge .ensures) (c .before .before .pre .0) (c .before .before .pre .1), c .before .before .pre .1)
 
 returns : tie.Need-returns
-returns c = entry (c .before .before .before .before .args .solid) (c .before .before .before .first-edge .ensures) (c .before .before .before .before .pre .0) (c .before .before .before .before .pre .1) (c .edge-entry .ensures)
+returns c = entry (c .before .before .before .args .solid) (c .before .before .first-edge .ensures) (c .before .before .before .pre .0) (c .before .before .before .pre .1) (c .edge-entry .ensures)
 
 pub are-joined-spec : {M : Type 1} → statement M
-are-joined-spec = 
+are-joined-spec =
     tie.close
     (tie.spec
     first-edge-requires
     cast-edge-entry
     add-edge-entry
-    cast-edge-entry-2
     edge-entry-requires
     returns)
