@@ -353,42 +353,18 @@ fn diagonals(corners: &[u16; 9], low: Vertex, high: Vertex) -> usize
     requires { ⌜ getD (now corners) 0 0 ≡ 0 ⌝ }
     ensures { λ r. ⌜ r ≡ choice (low .0) (high .0) (facesOf (element Hexahedron (cornersIn (now (corners .entry))))) ⌝ }
 {
-    let sixth = with_bit(
-        0,
-        low,
-        high,
-        four_at(corners, Place(3), Place(4), Place(8), Place(7)),
-    );
-    let fifth = with_bit(
-        sixth,
-        low,
-        high,
-        four_at(corners, Place(5), Place(6), Place(7), Place(8)),
-    );
-    let fourth = with_bit(
-        fifth,
-        low,
-        high,
-        four_at(corners, Place(2), Place(3), Place(7), Place(6)),
-    );
-    let third = with_bit(
-        fourth,
-        low,
-        high,
-        four_at(corners, Place(1), Place(5), Place(8), Place(4)),
-    );
-    let second = with_bit(
-        third,
-        low,
-        high,
-        four_at(corners, Place(1), Place(2), Place(6), Place(5)),
-    );
-    with_bit(
-        second,
-        low,
-        high,
-        four_at(corners, Place(1), Place(4), Place(3), Place(2)),
-    )
+    let sixth_face = four_at(corners, Place(3), Place(4), Place(8), Place(7));
+    let sixth = with_bit(0, low, high, sixth_face);
+    let fifth_face = four_at(corners, Place(5), Place(6), Place(7), Place(8));
+    let fifth = with_bit(sixth, low, high, fifth_face);
+    let fourth_face = four_at(corners, Place(2), Place(3), Place(7), Place(6));
+    let fourth = with_bit(fifth, low, high, fourth_face);
+    let third_face = four_at(corners, Place(1), Place(5), Place(8), Place(4));
+    let third = with_bit(fourth, low, high, third_face);
+    let second_face = four_at(corners, Place(1), Place(2), Place(6), Place(5));
+    let second = with_bit(third, low, high, second_face);
+    let first_face = four_at(corners, Place(1), Place(4), Place(3), Place(2));
+    with_bit(second, low, high, first_face)
 }
 
 // The choice of far diagonals of a hexahedron whose lowest corner's place is given.
