@@ -89,6 +89,9 @@ module _ {u v : ℕ} {s : Solid} {vs : List ℕ} (w : Ends u v s vs) where
   own : Proper s vs
   own = from-proper s vs (w .whole)
 
+  pub ends-few : length vs ≤ 8
+  ends-few = rw (own .many) (corners-few s)
+
   place-inside : (x : ℕ) → T (among x vs) → T (inside (corners s) (placeOf x vs))
   place-inside x i = subst (λ (n : ℕ). T (inside n (placeOf x vs))) (own .many) (placeOf-at x vs i .1)
 

@@ -19,6 +19,12 @@ ghost use Rattle.mesh.specs.BlockLoops.{tetOf, keyed, faceOf, Inserted, 
 // A tetrahedron in vertex numbers.
 pub struct Tet(pub Vertex, pub Vertex, pub Vertex, pub Vertex);
 
+// An element's block: the keys of its tetrahedra, in order, and how many they are; the keys behind these say nothing.
+pub struct Block {
+    pub keys: [u64; 6],
+    pub count: usize,
+}
+
 // A face in vertex numbers.
 pub enum Face {
     Three(Vertex, Vertex, Vertex),
@@ -178,18 +184,18 @@ fn lowest_place(numbers: &[u16]) -> Place
     ensures { λ r. ⌜ r .0 ≡ first (usedOf (now (numbers .entry))) ⌝ }
 {
     let last = records::kind_of(numbers) as u8;
-    let mut place = last;
-    let mut number = vertex_at(numbers, Place(last)).0;
+    let mut place = Place(last);
+    let mut lowest = vertex_at(numbers, place);
     let mut i = last - 1;
     while 0 < i {
-        let v = vertex_at(numbers, Place(i)).0;
-        if v <= number {
-            place = i;
-            number = v;
+        let v = vertex_at(numbers, Place(i));
+        if v.0 <= lowest.0 {
+            place = Place(i);
+            lowest = v;
         }
         i -= 1;
     }
-    Place(place)
+    place
 }
 
 // The place opposite to a place of the hexahedron.
@@ -329,16 +335,16 @@ fn corner_at(corners: &[u16; 9], place: Place) -> Vertex
 }
 
 // The face with four places.
-fn four_at(corners: &[u16; 9], p: u8, q: u8, r: u8, s: u8) -> Face
+fn four_at(corners: &[u16; 9], p: Place, q: Place, r: Place, s: Place) -> Face
     requires { ⌜ getD (now corners) 0 0 ≡ 0 ⌝ }
-    requires { ⌜ (p ≤ 8) × (q ≤ 8) × (r ≤ 8) × (s ≤ 8) ⌝ }
-    ensures { λ f. ⌜ faceOf f ≡ onFace (at (cornersIn (now (corners .entry)))) (four p q r s) ⌝ }
+    requires { ⌜ (p .0 ≤ 8) × (q .0 ≤ 8) × (r .0 ≤ 8) × (s .0 ≤ 8) ⌝ }
+    ensures { λ f. ⌜ faceOf f ≡ onFace (at (cornersIn (now (corners .entry)))) (four (p .0) (q .0) (r .0) (s .0)) ⌝ }
 {
     Face::Four(
-        corner_at(corners, Place(p)),
-        corner_at(corners, Place(q)),
-        corner_at(corners, Place(r)),
-        corner_at(corners, Place(s)),
+        corner_at(corners, p),
+        corner_at(corners, q),
+        corner_at(corners, r),
+        corner_at(corners, s),
     )
 }
 
@@ -347,12 +353,18 @@ fn diagonals(corners: &[u16; 9], low: Vertex, high: Vertex) -> usize
     requires { ⌜ getD (now corners) 0 0 ≡ 0 ⌝ }
     ensures { λ r. ⌜ r ≡ choice (low .0) (high .0) (facesOf (element Hexahedron (cornersIn (now (corners .entry))))) ⌝ }
 {
-    let sixth = with_bit(0, low, high, four_at(corners, 3, 4, 8, 7));
-    let fifth = with_bit(sixth, low, high, four_at(corners, 5, 6, 7, 8));
-    let fourth = with_bit(fifth, low, high, four_at(corners, 2, 3, 7, 6));
-    let third = with_bit(fourth, low, high, four_at(corners, 1, 5, 8, 4));
-    let second = with_bit(third, low, high, four_at(corners, 1, 2, 6, 5));
-    with_bit(second, low, high, four_at(corners, 1, 4, 3, 2))
+    let sixth_face = four_at(corners, Place(3), Place(4), Place(8), Place(7));
+    let sixth = with_bit(0, low, high, sixth_face);
+    let fifth_face = four_at(corners, Place(5), Place(6), Place(7), Place(8));
+    let fifth = with_bit(sixth, low, high, fifth_face);
+    let fourth_face = four_at(corners, Place(2), Place(3), Place(7), Place(6));
+    let fourth = with_bit(fifth, low, high, fourth_face);
+    let third_face = four_at(corners, Place(1), Place(5), Place(8), Place(4));
+    let third = with_bit(fourth, low, high, third_face);
+    let second_face = four_at(corners, Place(1), Place(2), Place(6), Place(5));
+    let second = with_bit(third, low, high, second_face);
+    let first_face = four_at(corners, Place(1), Place(4), Place(3), Place(2));
+    with_bit(second, low, high, first_face)
 }
 
 // The choice of far diagonals of a hexahedron whose lowest corner's place is given.
@@ -390,15 +402,15 @@ fn place_in(cuts: &[u8; 1536], row: usize, at: usize) -> Place
     Place(cuts[i])
 }
 
-// The corner at the place `place` of a row of cuts.
-fn row_vertex(corners: &[u16; 9], cuts: &[u8; 1536], row: usize, place: usize) -> Vertex
+// The corner at the place that stands at index i of a row of cuts.
+fn row_vertex(corners: &[u16; 9], cuts: &[u8; 1536], row: usize, i: usize) -> Vertex
     requires { ⌜ getD (now corners) 0 0 ≡ 0 ⌝ }
     requires { ⌜ now cuts ≡ cutPlaces ⌝ }
     requires { ⌜ row < 64 ⌝ }
-    requires { ⌜ place < 24 ⌝ }
-    ensures { λ r. ⌜ r .0 ≡ at (cornersIn (now (corners .entry))) (rowPlace row place) ⌝ }
+    requires { ⌜ i < 24 ⌝ }
+    ensures { λ r. ⌜ r .0 ≡ at (cornersIn (now (corners .entry))) (rowPlace row i) ⌝ }
 {
-    corner_at(corners, place_in(cuts, row, place))
+    corner_at(corners, place_in(cuts, row, i))
 }
 
 // The tetrahedron k, from 0, of a row of cuts, in vertex numbers.
@@ -519,8 +531,8 @@ fn fan_block(numbers: &[u16], keys: &mut [u64; 6]) -> usize
     n
 }
 
-// The keys of the tetrahedra of a record's element, the hexahedron's by its row of the table of cuts, the others' by the rule; how many they are.
-pub fn block_of(numbers: &[u16], cuts: &[u8; 1536], keys: &mut [u64; 6]) -> usize
+// The tetrahedra of a record's element, the hexahedron's by its row of the table of cuts, the others' by the rule; how many they are.
+fn fill_block(numbers: &[u16], cuts: &[u8; 1536], keys: &mut [u64; 6]) -> usize
     requires { ⌜ Whole (now numbers) ⌝ }
     requires { ⌜ now cuts ≡ cutPlaces ⌝ }
     requires { ⌜ length (now keys) ≡ 6 ⌝ }
@@ -530,6 +542,17 @@ pub fn block_of(numbers: &[u16], cuts: &[u8; 1536], keys: &mut [u64; 6]) -> usiz
         return row_block(numbers, cuts, keys);
     }
     fan_block(numbers, keys)
+}
+
+// The block of a record's element: its tetrahedra, at most six, as the page writes them and in its order.
+pub fn block_of(numbers: &[u16], cuts: &[u8; 1536]) -> Block
+    requires { ⌜ Whole (now numbers) ⌝ }
+    requires { ⌜ now cuts ≡ cutPlaces ⌝ }
+    ensures { λ b. ⌜ BlockIs (b .keys) (b .count) (cut (elementOf (now (numbers .entry)))) ⌝ }
+{
+    let mut keys = [0u64; 6];
+    let count = fill_block(numbers, cuts, &mut keys);
+    Block { keys, count }
 }
 
 // How many tetrahedra a hexahedron gives: six, or five where no far diagonal passes the opposite corner.

@@ -51,7 +51,7 @@ fn put_tet(out: &mut [u16], at: usize, t: Tet)
     out[at + 3] = t.3.0;
 }
 
-// The tetrahedra of the first n of six keys, from an index on.
+// The tetrahedra of a block of n keys, from an index on.
 fn put_tets(out: &mut [u16], at: usize, keys: &[u64; 6], n: usize)
     requires { ⌜ n ≤ 6 ⌝ }
     requires { ⌜ at + tetrahedronWidth * n ≤ length (now out) ⌝ }
@@ -73,9 +73,9 @@ fn put_element(numbers: &[u16], cuts: &[u8; 1536], out: &mut [u16], at: usize) -
     requires { ⌜ at + tetrahedronWidth * length (cut (elementOf (now numbers))) ≤ length (now out) ⌝ }
     ensures { λ r. ⌜ Stored (cut (elementOf (now (numbers .entry)))) at (now (out .entry)) r (now (out .exit)) ⌝ }
 {
-    let mut keys = [0u64; 6];
-    let count = blocks::block_of(numbers, cuts, &mut keys);
-    put_tets(out, at, &keys, count);
+    let block = blocks::block_of(numbers, cuts);
+    let count = block.count;
+    put_tets(out, at, &block.keys, count);
     count
 }
 

@@ -6,6 +6,7 @@ use crate::blocks::Tet;
 use faults::Fault;
 use faults::Refusal;
 use judging::JudgeAnswer;
+use solids::Vertex;
 use volume::Point;
 use volume::VolumeAnswer;
 ghost use mathlib.Core.Path.{_≡_};
@@ -52,12 +53,11 @@ fn number_at(vertices: &[i32], at: usize) -> i32
 }
 
 // The vertex v, from 1, of a vertex table.
-fn point_at(vertices: &[i32], v: usize) -> Point
-    requires { ⌜ 1 ≤ v ⌝ }
-    requires { ⌜ v ≤ 65535 ⌝ }
-    ensures { λ p. ⌜ p ≡ pointAt (now (vertices .entry)) v ⌝ }
+fn point_at(vertices: &[i32], v: Vertex) -> Point
+    requires { ⌜ 1 ≤ v .0 ⌝ }
+    ensures { λ p. ⌜ p ≡ pointAt (now (vertices .entry)) (v .0) ⌝ }
 {
-    let at = POINT * (v - 1);
+    let at = POINT * (v.0 as usize - 1);
     Point {
         x: number_at(vertices, at),
         y: number_at(vertices, at + 1),
@@ -65,19 +65,20 @@ fn point_at(vertices: &[i32], v: usize) -> Point
     }
 }
 
-// The number, from 1, of the first of n vertices with a coordinate beyond the limits, or 0.
-fn bad_point(vertices: &[i32], n: usize) -> usize
+// The first of n vertices with a coordinate beyond the limits, or none.
+fn bad_point(vertices: &[i32], n: usize) -> Vertex
     requires { ⌜ n ≤ 4096 ⌝ }
-    ensures { λ r. ⌜ r ≡ badPoint (now (vertices .entry)) n ⌝ }
+    ensures { λ r. ⌜ r .0 ≡ badPoint (now (vertices .entry)) n ⌝ }
 {
     let mut k = 0;
     while k < n {
-        if !volume::point_in_range(point_at(vertices, k + 1)) {
-            return k + 1;
+        let v = Vertex((k + 1) as u16);
+        if !volume::point_in_range(point_at(vertices, v)) {
+            return v;
         }
         k += 1;
     }
-    0
+    Vertex(0)
 }
 
 // A vertex beyond the limits is RANGE with its number.
@@ -85,11 +86,11 @@ fn judge_range(vertices: &[i32], n: usize) -> JudgeAnswer
     requires { ⌜ n ≤ 4096 ⌝ }
     ensures { λ r. ⌜ r ≡ rangeAnswer (badPoint (now (vertices .entry)) n) ⌝ }
 {
-    let k = bad_point(vertices, n);
-    if 0 < k {
+    let v = bad_point(vertices, n);
+    if 0 < v.0 {
         return JudgeAnswer::Refused(Refusal {
             fault: Fault::Range,
-            place: k,
+            place: v.0 as usize,
             second: 0,
         });
     }
@@ -111,10 +112,10 @@ fn volume_at(t: Tet, vertices: &[i32]) -> i64
     requires { ⌜ T (sitedTet (now vertices) (tetOf t)) ⌝ }
     ensures { λ z. ⌜ z ≡ volumeIn (now (vertices .entry)) (tetOf t) ⌝ }
 {
-    let a = point_at(vertices, t.0.0 as usize);
-    let b = point_at(vertices, t.1.0 as usize);
-    let c = point_at(vertices, t.2.0 as usize);
-    let d = point_at(vertices, t.3.0 as usize);
+    let a = point_at(vertices, t.0);
+    let b = point_at(vertices, t.1);
+    let c = point_at(vertices, t.2);
+    let d = point_at(vertices, t.3);
     match volume::sixfold_volume(a, b, c, d) {
         VolumeAnswer::Done(z) => z,
         VolumeAnswer::Refused(_) => 0,
@@ -169,7 +170,7 @@ fn with_sign(tally: Tally, sign: Sign) -> Tally
     }
 }
 
-// The tetrahedra of the first n of six keys, counted by sign.
+// The tetrahedra of a block of n keys, counted by sign.
 fn tally_block(keys: &[u64; 6], n: usize, vertices: &[i32]) -> Tally
     requires { ⌜ SitedBlock (now vertices) (now keys) n ⌝ }
     ensures { λ r. ⌜ Tallied (now (vertices .entry)) (tetsIn (now (keys .entry)) n) r ⌝ }
@@ -206,9 +207,9 @@ fn element_counts(numbers: &[u16], cuts: &[u8; 1536], vertices: &[i32]) -> SignC
     requires { ⌜ T (every (sited (now vertices)) (usedOf (now numbers))) ⌝ }
     ensures { λ r. ⌜ ofCounts r ≡ signCounts (now (vertices .entry)) (elementOf (now (numbers .entry)) ∷ []) ⌝ }
 {
-    let mut keys = [0u64; 6];
-    let count = blocks::block_of(numbers, cuts, &mut keys);
-    let tally = tally_block(&keys, count, vertices);
+    let block = blocks::block_of(numbers, cuts);
+    let count = block.count;
+    let tally = tally_block(&block.keys, count, vertices);
     let positive = tally.positive;
     let zero = tally.zero;
     let negative = tally.negative;

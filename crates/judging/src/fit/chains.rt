@@ -8,12 +8,20 @@ ghost use Rattle.judging.specs.Judge.{misfit};
 ghost use Rattle.judging.specs.FitLoops.{Filed, Meeting, Met, Walking, Walked, Joining};
 use crate::fit::pair;
 use records::WIDTH;
+use solids::Vertex;
 
 // A number of a table as an index.
 fn wide(number: u16) -> usize
     ensures { λ r. ⌜ r ≡ number ⌝ }
 {
     number as usize
+}
+
+// A vertex as an index of `heads`. An index x of the whole table, and so of `links`, is no place of a solid and stays a plain number.
+fn chain_of(vertex: Vertex) -> usize
+    ensures { λ r. ⌜ r ≡ vertex .0 ⌝ }
+{
+    vertex.0 as usize
 }
 
 // Meets element i at one more vertex of element j: 1 marks that they met once, 2 that they fit, which is tested when they meet again.
@@ -39,15 +47,15 @@ fn fits_again(table: &[u16], i: usize, j: usize, seen: &mut [u8; 1024]) -> bool
 fn chain_fits(
     table: &[u16],
     j: usize,
-    vertex: u16,
+    vertex: Vertex,
     heads: &[u16; 4097],
     links: &[u16; 9216],
     seen: &mut [u8; 1024],
 ) -> bool
-    requires { ⌜ Walking (now table) j vertex (now heads) (now links) (now seen) ⌝ }
-    ensures { λ r. ⌜ Walked (now (table .entry)) j vertex (now (seen .entry)) (now (seen .exit)) r ⌝ }
+    requires { ⌜ Walking (now table) j (vertex .0) (now heads) (now links) (now seen) ⌝ }
+    ensures { λ r. ⌜ Walked (now (table .entry)) j (vertex .0) (now (seen .entry)) (now (seen .exit)) r ⌝ }
 {
-    let v = wide(vertex);
+    let v = chain_of(vertex);
     let mut x = wide(heads[v]);
     while 0 < x {
         if !fits_again(table, x / WIDTH, j, seen) {
@@ -64,15 +72,15 @@ pub fn fits_all(table: &[u16], j: usize, heads: &[u16; 4097], links: &[u16; 9216
     ensures { λ r. ⌜ r ≡ not (ltb 0 (misfit (now (table .entry)) j)) ⌝ }
 {
     let kind = wide(records::kind_of(records::record_at(table, j)));
-    let start = WIDTH * j;
+    let start = WIDTH * j + 1;
+    let end = start + kind;
     let mut seen = [0u8; 1024];
-    let mut p = 1;
-    while p <= kind {
-        let x = start + p;
-        if !chain_fits(table, j, table[x], heads, links, &mut seen) {
+    let mut x = start;
+    while x < end {
+        if !chain_fits(table, j, Vertex(table[x]), heads, links, &mut seen) {
             return false;
         }
-        p += 1;
+        x += 1;
     }
     true
 }
@@ -86,7 +94,7 @@ pub fn file_places(table: &[u16], j: usize, heads: &mut [u16; 4097], links: &mut
     let end = start + WIDTH;
     let mut x = start + 1;
     while x < end {
-        let v = wide(table[x]);
+        let v = chain_of(Vertex(table[x]));
         links[x] = heads[v];
         heads[v] = x as u16;
         x += 1;

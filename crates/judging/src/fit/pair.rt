@@ -13,6 +13,7 @@ use crate::fit::cycles::Cycle;
 use crate::fit::edges;
 use crate::fit::sets;
 use solids::Solid;
+use solids::Vertex;
 
 // The common vertices of two elements are the two ends of an edge of both.
 fn share_edge(
@@ -28,8 +29,8 @@ fn share_edge(
     if 2 < vertices.len() {
         return false;
     }
-    let u = vertices[0];
-    let v = vertices[1];
+    let u = Vertex(vertices[0]);
+    let v = Vertex(vertices[1]);
     if edges::has_edge(u, v, solid, corners) {
         return edges::has_edge(u, v, neighbour, others);
     }

@@ -5,14 +5,15 @@ ghost use lib.ListN.{length};
 ghost use Rattle.laws.specs.Words.{among, every};
 ghost use Rattle.solids.specs.Fit.{sameSet};
 ghost use Rattle.judging.specs.FitLoops.{Collected};
+use solids::Vertex;
 
-// The number is among those of the list.
-pub fn is_among(v: u16, list: &[u16]) -> bool
-    ensures { λ r. ⌜ r ≡ among v (now (list .entry)) ⌝ }
+// The vertex is among those of the list.
+fn is_among(v: Vertex, list: &[u16]) -> bool
+    ensures { λ r. ⌜ r ≡ among (v .0) (now (list .entry)) ⌝ }
 {
     let mut i = 0;
     while i < list.len() {
-        if v == list[i] {
+        if v.0 == list[i] {
             return true;
         }
         i += 1;
@@ -26,7 +27,7 @@ fn all_among(list: &[u16], others: &[u16]) -> bool
 {
     let mut i = 0;
     while i < list.len() {
-        if !is_among(list[i], others) {
+        if !is_among(Vertex(list[i]), others) {
             return false;
         }
         i += 1;
@@ -52,9 +53,9 @@ pub fn common_of(corners: &[u16], others: &[u16], found: &mut [u16]) -> usize
     let mut count = 0;
     let mut i = 0;
     while i < corners.len() {
-        let v = corners[i];
+        let v = Vertex(corners[i]);
         if is_among(v, others) {
-            found[count] = v;
+            found[count] = v.0;
             count += 1;
         }
         i += 1;

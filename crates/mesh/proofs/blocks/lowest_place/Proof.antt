@@ -14,10 +14,10 @@ use Rattle.mesh.proofs.blocks.lowest_place.Statement.{statement}
 use Rattle.mesh.proofs.blocks.lowest_place.Tie as tie
 
 abbrev Inv-loop : tie.InvT-loop
-Inv-loop numbers last place₀ number₀ i₀ place number i = Found (usedOf numbers) place number i
+Inv-loop numbers last place₀ lowest₀ i₀ place lowest i = Found (usedOf numbers) (place .0) (lowest .0) i
 
 abbrev μ-loop : tie.MeasureT-loop
-μ-loop numbers last place₀ number₀ i₀ place number i = i
+μ-loop numbers last place₀ lowest₀ i₀ place lowest i = i
 
 kind-of-requires : tie.Need-kind-of-requires Inv-loop μ-loop
 kind-of-requires c κs = search needs
@@ -49,11 +49,11 @@ loop-less c = omega arith
 
 loop-again : tie.Need-loop-again Inv-loop μ-loop
 loop-again c =
-    let vs = usedOf (now (c .before .before .before .before .before .before .before .args .numbers)) in
-    let i = c .before .before .before .loop .i in
-    let f = c .before .before .before .loop .inv in
-    let h = c .before .before .loop-test .taken in
-    let e = c .before .vertex-at2 .ensures in
+    let vs = usedOf (now (c .before .before .before .before .before .before .before .before .before .args .numbers)) in
+    let i = c .before .before .before .before .before .loop .i in
+    let f = c .before .before .before .before .before .loop .inv in
+    let h = c .before .before .before .before .loop-test .taken in
+    let e = c .before .before .before .vertex-at2 .ensures in
     ⊎-elim
     (λ w. rw (w .1, w .2) (found-lower vs i f h e (w .0 .taken)))
     (λ w. rw (w .1, w .2) (found-higher vs i f h e (w .0 .left)))
@@ -64,7 +64,7 @@ returns c =
     let z : c .before .loop .i ≡ 0 = omega arith in
     let vs = usedOf (now (c .before .before .before .before .before .args .numbers)) in
     let l = c .before .loop in
-    found-first vs (subst (λ (i : ℕ). Found vs (l .place) (l .number) i) z (l .inv))
+    found-first vs (subst (λ (i : ℕ). Found vs (l .place .0) (l .lowest .0) i) z (l .inv))
 
 pub lowest-place-spec : {M : Type 1} → statement M
 lowest-place-spec =

@@ -15,7 +15,7 @@ place-in-requires c κs = (c .pre .1 .0, (c .pre .1 .1 .0, c .pre .1 .1 .1))
 corner-at-requires : tie.Need-corner-at-requires
 corner-at-requires c κs =
     let s = c .before in
-    (s .pre .0, omega (arith, c .place-in .ensures, row-place-small (s .args .row) (s .args .place)))
+    (s .pre .0, omega (arith, c .place-in .ensures, row-place-small (s .args .row) (s .args .i)))
 
 returns : tie.Need-returns
 returns c = c .corner-at .ensures ∙ ap (at (cornersIn (now (c .before .before .args .corners)))) (c .before .place-in .ensures)

@@ -55,17 +55,17 @@ abbrev μ-loop : tie.MeasureT-loop
 loop-holds : tie.Need-loop-holds Inv-loop μ-loop
 loop-holds c = record { few = c .pre; up = omega arith; clean = start (c .args .vertices .now) }
 
-add-point-at : tie.Need-add-point-at Inv-loop μ-loop
-add-point-at c = omega (arith, c .before .loop .inv .few)
+add-t6 : tie.Need-add-t6 Inv-loop μ-loop
+add-t6 c = omega (arith, c .before .loop .inv .few)
+
+cast-t7 : tie.Need-cast-t7 Inv-loop μ-loop
+cast-t7 c = omega (arith, c .before .loop .inv .few)
 
 point-at-requires : tie.Need-point-at-requires Inv-loop μ-loop
-point-at-requires c κs = (omega arith, omega (arith, c .before .loop .inv .few))
+point-at-requires c κs = omega arith
 
 point-in-range-requires : tie.Need-point-in-range-requires Inv-loop μ-loop
 point-in-range-requires c κs = search needs
-
-add-result : tie.Need-add-result Inv-loop μ-loop
-add-result c = omega (arith, c .before .before .before .before .loop .inv .few)
 
 returns : tie.Need-returns Inv-loop μ-loop
 returns c =
@@ -95,10 +95,10 @@ bad-point-spec =
     Inv-loop
     μ-loop
     loop-holds
-    add-point-at
+    add-t6
+    cast-t7
     point-at-requires
     point-in-range-requires
-    add-result
     returns
     add-k
     loop-less

@@ -8,6 +8,9 @@ use borrow.Author.Needs.{needs}
 use Rattle.mesh.proofs.signs.point_at.Statement.{statement}
 use Rattle.mesh.proofs.signs.point_at.Tie as tie
 
+cast-at : tie.Need-cast-at
+cast-at c = search needs
+
 sub-at : tie.Need-sub-at
 sub-at c = search needs
 
@@ -41,6 +44,7 @@ pub point-at-spec : {M : Type 1} → statement M
 point-at-spec =
     tie.close
     (tie.spec
+    cast-at
     sub-at
     mul-at
     number-at-requires

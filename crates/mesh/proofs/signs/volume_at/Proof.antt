@@ -17,29 +17,17 @@ use Rattle.mesh.proofs.signs.volume_at.Tie as tie
 sites : (s : tie.Start) → Sites (now (s .args .vertices)) (s .args .t .0 .0) (s .args .t .1 .0) (s .args .t .2 .0) (s .args .t .3 .0)
 sites s = to-sites (now (s .args .vertices)) (s .args .t .0 .0) (s .args .t .1 .0) (s .args .t .2 .0) (s .args .t .3 .0) (s .pre)
 
-cast-point-at : tie.Need-cast-point-at
-cast-point-at c = search needs
-
 point-at-requires : tie.Need-point-at-requires
-point-at-requires c κs = let h = sites (c .before) .at-a in (h .low, search needs)
-
-cast-point-at-2 : tie.Need-cast-point-at-2
-cast-point-at-2 c = search needs
+point-at-requires c κs = sites c .at-a .low
 
 point-at-requires-2 : tie.Need-point-at-requires-2
-point-at-requires-2 c κs = let h = sites (c .before .before .before) .at-b in (h .low, search needs)
-
-cast-point-at-3 : tie.Need-cast-point-at-3
-cast-point-at-3 c = search needs
+point-at-requires-2 c κs = sites (c .before) .at-b .low
 
 point-at-requires-3 : tie.Need-point-at-requires-3
-point-at-requires-3 c κs = let h = sites (c .before .before .before .before .before) .at-c in (h .low, search needs)
-
-cast-point-at-4 : tie.Need-cast-point-at-4
-cast-point-at-4 c = search needs
+point-at-requires-3 c κs = sites (c .before .before) .at-c .low
 
 point-at-requires-4 : tie.Need-point-at-requires-4
-point-at-requires-4 c κs = let h = sites (c .before .before .before .before .before .before .before) .at-d in (h .low, search needs)
+point-at-requires-4 c κs = sites (c .before .before .before) .at-d .low
 
 sixfold-volume-requires : tie.Need-sixfold-volume-requires
 sixfold-volume-requires c κs = search needs
@@ -51,10 +39,10 @@ enum-told : tie.Need-enum-told
 enum-told c = search needs
 
 -- what the answer is
-done : (c : tie.After-sixfold-volume) → c .sixfold-volume .result ≡ Done (volumeIn (now (c .before .before .before .before .before .before .before .before .before .args .vertices)) (tetOf (c .before .before .before .before .before .before .before .before .before .args .t)))
+done : (c : tie.After-sixfold-volume) → c .sixfold-volume .result ≡ Done (volumeIn (now (c .before .before .before .before .before .args .vertices)) (tetOf (c .before .before .before .before .before .args .t)))
 done c =
-    let s = c .before .before .before .before .before .before .before .before .before in
-    volume-done (now (s .args .vertices)) (s .args .t) (sites s) (c .before .before .before .before .before .before .before .point-at .ensures) (c .before .before .before .before .before .point-at2 .ensures) (c .before .before .before .point-at3 .ensures) (c .before .point-at4 .ensures) (c .sixfold-volume .ensures)
+    let s = c .before .before .before .before .before in
+    volume-done (now (s .args .vertices)) (s .args .t) (sites s) (c .before .before .before .before .point-at .ensures) (c .before .before .before .point-at2 .ensures) (c .before .before .point-at3 .ensures) (c .before .point-at4 .ensures) (c .sixfold-volume .ensures)
 
 returns : tie.Need-returns
 returns c =
@@ -68,13 +56,9 @@ pub volume-at-spec : {M : Type 1} → statement M
 volume-at-spec =
     tie.close
     (tie.spec
-    cast-point-at
     point-at-requires
-    cast-point-at-2
     point-at-requires-2
-    cast-point-at-3
     point-at-requires-3
-    cast-point-at-4
     point-at-requires-4
     sixfold-volume-requires
     enum-known-z

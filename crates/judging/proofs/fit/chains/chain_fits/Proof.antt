@@ -18,10 +18,10 @@ use Rattle.judging.proofs.fit.chains.chain_fits.Statement.{statement}
 use Rattle.judging.proofs.fit.chains.chain_fits.Tie as tie
 
 abbrev Inv-loop : tie.InvT-loop
-Inv-loop table j vertex heads links seen₀ v x₀ seen x = On table j vertex seen₀ seen x × Seen table j seen
+Inv-loop table j heads links seen₀ v x₀ seen x = On table j v seen₀ seen x × Seen table j seen
 
 abbrev μ-loop : tie.MeasureT-loop
-μ-loop table j vertex heads links seen₀ v x₀ seen x = x
+μ-loop table j heads links seen₀ v x₀ seen x = x
 
 -- the element of place x is before j, and the place before x of the same vertex is the next of the chain
 module _ {t : List ℕ} {j v x : ℕ} {old new : List ℕ} (w : On t j v old new x) (h : 0 < x) where
@@ -51,24 +51,29 @@ walked {t} {j} {v} {x} w h s = record {
   bad = λ z. absurd (subst T z tt);
 }
 
-wide-requires : tie.Need-wide-requires Inv-loop μ-loop
-wide-requires c κs = search needs
+-- the same of a number that is the vertex
+renamed : {t : List ℕ} {j v u : ℕ} {old new : List ℕ} {r : Bool} → v ≡ u → Walked t j v old new r → Walked t j u old new r
+renamed {t} {j} {old} {new} {r} e w = subst (λ (k : ℕ). Walked t j k old new r) e w
+
+chain-of-requires : tie.Need-chain-of-requires Inv-loop μ-loop
+chain-of-requires c κs = search needs
 
 mul-wide : tie.Need-mul-wide Inv-loop μ-loop
-mul-wide c = omega (arith, c .wide .ensures, c .before .before .pre .low)
+mul-wide c = omega (arith, c .chain-of .ensures, c .before .before .pre .low)
 
 element-copy-out-wide : tie.Need-element-copy-out-wide Inv-loop μ-loop
-element-copy-out-wide c = omega (arith, c .wide .ensures, c .before .before .pre .low)
+element-copy-out-wide c = omega (arith, c .chain-of .ensures, c .before .before .pre .low)
 
-wide-requires-2 : tie.Need-wide-requires-2 Inv-loop μ-loop
-wide-requires-2 c κs = search needs
+wide-requires : tie.Need-wide-requires Inv-loop μ-loop
+wide-requires c κs = search needs
 
 loop-holds : tie.Need-loop-holds Inv-loop μ-loop
 loop-holds c =
     let p = c .before .before .before .before .pre in
-    let a = c .before .before .before .before .args in (
-      on-start (now (a .table)) (a .j) (a .vertex) (now (a .seen)) (c .wide2 .result)
-          (c .wide2 .ensures ∙ ap (λ (n : ℕ). getD (now (a .heads)) n 0) (c .before .before .wide .ensures) ∙ p .filed .first (a .vertex) (p .low)),
+    let a = c .before .before .before .before .args in
+    let v = c .before .before .chain-of in (
+      on-start (now (a .table)) (a .j) (v .result) (now (a .seen)) (c .wide .result)
+          (c .wide .ensures ∙ p .filed .first (v .result) (rw (v .ensures) (p .low))),
       p .seen,
     )
 
@@ -80,7 +85,8 @@ fits-again-requires c κs =
 returns : tie.Need-returns Inv-loop μ-loop
 returns c =
     let l = c .before .before .before .before .loop in
-    missed (l .inv .0) (c .before .before .before .loop-test .taken) (c .before .fits-again .ensures) (not-true (c .before .fits-again .result) (c .if1 .taken))
+    renamed (c .before .before .before .before .before .before .before .chain-of .ensures)
+    (missed (l .inv .0) (c .before .before .before .loop-test .taken) (c .before .fits-again .ensures) (not-true (c .before .fits-again .result) (c .if1 .taken)))
 
 mul-wide-2 : tie.Need-mul-wide-2 Inv-loop μ-loop
 mul-wide-2 c =
@@ -92,15 +98,15 @@ element-copy-out-wide-2 c =
     let h = c .before .before .before .before .loop .inv .0 .less (c .before .before .before .loop-test .taken) in
     omega (arith, c .before .before .before .before .before .before .before .before .before .pre .table .few)
 
-wide-requires-3 : tie.Need-wide-requires-3 Inv-loop μ-loop
-wide-requires-3 c κs = search needs
+wide-requires-2 : tie.Need-wide-requires-2 Inv-loop μ-loop
+wide-requires-2 c κs = search needs
 
 loop-less : tie.Need-loop-less Inv-loop μ-loop
 loop-less c =
     let l = c .before .before .before .before .before .before .loop in
     let h = c .before .before .before .before .before .loop-test .taken in
     let p = c .before .before .before .before .before .before .before .before .before .before .before .pre in
-    let e = next-place (l .inv .0) h (p .filed) (c .wide3 .ensures) in
+    let e = next-place (l .inv .0) h (p .filed) (c .wide2 .ensures) in
     let n = latest-less _ (l .x) h in
     rw e n
 
@@ -111,13 +117,13 @@ loop-again c =
     let p = c .before .before .before .before .before .before .before .before .before .before .before .pre in
     let a = c .before .before .before .before .before .before .before .before .before .before .before .args in
     let f = c .before .before .before .fits-again in (
-      on-next (now (a .table)) (a .j) (a .vertex) (now (a .seen)) (l .x) (c .wide3 .result) (l .inv .0) h
-          (f .ensures) (not-false (f .result) (c .before .before .if1 .left)) (next-place (l .inv .0) h (p .filed) (c .wide3 .ensures)),
+      on-next (now (a .table)) (a .j) (c .before .before .before .before .before .before .before .before .before .chain-of .result) (now (a .seen)) (l .x) (c .wide2 .result) (l .inv .0) h
+          (f .ensures) (not-false (f .result) (c .before .before .if1 .left)) (next-place (l .inv .0) h (p .filed) (c .wide2 .ensures)),
       f .ensures .seen,
     )
 
 returns-2 : tie.Need-returns-2 Inv-loop μ-loop
-returns-2 c = walked (c .before .loop .inv .0) (c .loop-test .left) (c .before .loop .inv .1)
+returns-2 c = renamed (c .before .before .before .before .chain-of .ensures) (walked (c .before .loop .inv .0) (c .loop-test .left) (c .before .loop .inv .1))
 
 pub chain-fits-spec : {M : Type 1} → statement M
 chain-fits-spec =
@@ -125,16 +131,16 @@ chain-fits-spec =
     (tie.spec
     Inv-loop
     μ-loop
-    wide-requires
+    chain-of-requires
     mul-wide
     element-copy-out-wide
-    wide-requires-2
+    wide-requires
     loop-holds
     fits-again-requires
     returns
     mul-wide-2
     element-copy-out-wide-2
-    wide-requires-3
+    wide-requires-2
     loop-less
     loop-again
     returns-2)

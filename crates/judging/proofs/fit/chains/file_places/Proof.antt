@@ -43,23 +43,23 @@ module _ (t : List ℕ) (j x : ℕ) (h : width * j < x) (l : x < width * j + wid
       → Filed t (x + 1) (set heads v x) (set links x (getD heads v 0))
   filed-here {v} n e w = filed-more t x w place v e (low-here n e) (omega (arith, n .table .few))
 
-mul-wide : tie.Need-mul-wide Inv-loop μ-loop
-mul-wide c = omega (arith, c .before .before .before .pre .table .table .few)
-
-shared-slice-read-wide : tie.Need-shared-slice-read-wide Inv-loop μ-loop
-shared-slice-read-wide c = omega (arith, c .before .before .before .before .pre .table .table .long)
-
-wide-requires : tie.Need-wide-requires Inv-loop μ-loop
-wide-requires c κs = search needs
-
 mul-links : tie.Need-mul-links Inv-loop μ-loop
-mul-links c = let h = low-here (now (c .before .before .before .before .before .args .table)) (c .before .before .before .before .before .args .j) (c .before .before .before .loop .x) (c .before .before .before .loop .inv .0) (c .before .before .loop-test .taken) (c .before .before .before .before .before .pre .table) (c .wide .ensures) in omega arith
+mul-links c = omega (arith, c .before .before .before .pre .table .table .few)
 
-element-copy-out-links : tie.Need-element-copy-out-links Inv-loop μ-loop
-element-copy-out-links c = let h = low-here (now (c .before .before .before .before .before .args .table)) (c .before .before .before .before .before .args .j) (c .before .before .before .loop .x) (c .before .before .before .loop .inv .0) (c .before .before .loop-test .taken) (c .before .before .before .before .before .pre .table) (c .wide .ensures) in omega arith
+shared-slice-read-links : tie.Need-shared-slice-read-links Inv-loop μ-loop
+shared-slice-read-links c = omega (arith, c .before .before .before .before .pre .table .table .long)
+
+chain-of-requires : tie.Need-chain-of-requires Inv-loop μ-loop
+chain-of-requires c κs = search needs
 
 mul-links-2 : tie.Need-mul-links-2 Inv-loop μ-loop
-mul-links-2 c = omega (arith, c .before .before .before .before .before .before .pre .table .table .few)
+mul-links-2 c = let h = low-here (now (c .before .before .before .before .before .args .table)) (c .before .before .before .before .before .args .j) (c .before .before .before .loop .x) (c .before .before .before .loop .inv .0) (c .before .before .loop-test .taken) (c .before .before .before .before .before .pre .table) (c .chain-of .ensures) in omega arith
+
+element-copy-out-links : tie.Need-element-copy-out-links Inv-loop μ-loop
+element-copy-out-links c = let h = low-here (now (c .before .before .before .before .before .args .table)) (c .before .before .before .before .before .args .j) (c .before .before .before .loop .x) (c .before .before .before .loop .inv .0) (c .before .before .loop-test .taken) (c .before .before .before .before .before .pre .table) (c .chain-of .ensures) in omega arith
+
+mul-links-3 : tie.Need-mul-links-3 Inv-loop μ-loop
+mul-links-3 c = omega (arith, c .before .before .before .before .before .before .pre .table .table .few)
 
 element-write-links : tie.Need-element-write-links Inv-loop μ-loop
 element-write-links c = omega (arith, c .before .before .before .before .before .before .pre .table .table .few)
@@ -68,10 +68,10 @@ cast-heads : tie.Need-cast-heads Inv-loop μ-loop
 cast-heads c = omega (arith, c .before .before .before .before .before .before .pre .table .table .few)
 
 mul-heads : tie.Need-mul-heads Inv-loop μ-loop
-mul-heads c = let h = low-here (now (c .before .before .before .before .before .before .args .table)) (c .before .before .before .before .before .before .args .j) (c .before .before .before .before .loop .x) (c .before .before .before .before .loop .inv .0) (c .before .before .before .loop-test .taken) (c .before .before .before .before .before .before .pre .table) (c .before .wide .ensures) in omega arith
+mul-heads c = let h = low-here (now (c .before .before .before .before .before .before .args .table)) (c .before .before .before .before .before .before .args .j) (c .before .before .before .before .loop .x) (c .before .before .before .before .loop .inv .0) (c .before .before .before .loop-test .taken) (c .before .before .before .before .before .before .pre .table) (c .before .chain-of .ensures) in omega arith
 
 element-write-heads : tie.Need-element-write-heads Inv-loop μ-loop
-element-write-heads c = let h = low-here (now (c .before .before .before .before .before .before .args .table)) (c .before .before .before .before .before .before .args .j) (c .before .before .before .before .loop .x) (c .before .before .before .before .loop .inv .0) (c .before .before .before .loop-test .taken) (c .before .before .before .before .before .before .pre .table) (c .before .wide .ensures) in omega arith
+element-write-heads c = let h = low-here (now (c .before .before .before .before .before .before .args .table)) (c .before .before .before .before .before .before .args .j) (c .before .before .before .before .loop .x) (c .before .before .before .before .loop .inv .0) (c .before .before .before .loop-test .taken) (c .before .before .before .before .before .before .pre .table) (c .before .chain-of .ensures) in omega arith
 
 add-x-2 : tie.Need-add-x-2 Inv-loop μ-loop
 add-x-2 c = omega (arith, c .before .before .before .before .before .before .pre .table .table .few)
@@ -84,7 +84,7 @@ loop-again c =
     let l = c .before .before .before .before .loop in (
       omega arith,
       omega arith,
-      filed-here (now (c .before .before .before .before .before .before .args .table)) (c .before .before .before .before .before .before .args .j) (l .x) (l .inv .0) (c .before .before .before .loop-test .taken) (c .before .before .before .before .before .before .pre .table) (c .before .wide .ensures) (l .inv .2),
+      filed-here (now (c .before .before .before .before .before .before .args .table)) (c .before .before .before .before .before .before .args .j) (l .x) (l .inv .0) (c .before .before .before .loop-test .taken) (c .before .before .before .before .before .before .pre .table) (c .before .chain-of .ensures) (l .inv .2),
     )
 
 returns : tie.Need-returns Inv-loop μ-loop
@@ -104,12 +104,12 @@ file-places-spec =
     add-end
     add-x
     loop-holds
-    mul-wide
-    shared-slice-read-wide
-    wide-requires
     mul-links
-    element-copy-out-links
+    shared-slice-read-links
+    chain-of-requires
     mul-links-2
+    element-copy-out-links
+    mul-links-3
     element-write-links
     cast-heads
     mul-heads

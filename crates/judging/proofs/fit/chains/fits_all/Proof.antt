@@ -1,5 +1,5 @@
--- `judging::fit::chains::fits_all` meets its contract. The loop's invariant: the elements that hold a vertex of the places before p are marked, and those that hold two fit j.
--- The measure is how many places are left. Assumes nothing.
+-- `judging::fit::chains::fits_all` meets its contract. The loop's invariant: the elements that hold a vertex of element j before index x are marked, and those that hold two fit j.
+-- The measure is how many indices are left. Assumes nothing.
 use Prim.Native.Nat.{ℕ, _+_, _*_, _/_, _-_, _≤_, _<_}
 use native.Mathlib.Nat.{le-trans}
 use native.Mathlib.Omega.{arith}
@@ -20,37 +20,37 @@ use Rattle.judging.proofs.ChainLaws.{seen-start, misfit-none}
 use Rattle.judging.proofs.fit.chains.fits_all.Statement.{statement}
 use Rattle.judging.proofs.fit.chains.fits_all.Tie as tie
 
-record Passed (t : List ℕ) (j p : ℕ) (marks : List ℕ) : Type 0 where
-  high : 0 < p
+record Passed (t : List ℕ) (j x : ℕ) (marks : List ℕ) : Type 0 where
+  high : width * j < x
   seen : Seen t j marks
-  once : (q : ℕ) → 0 < q → q < p → (x : ℕ) → x < width * j → holds t (getD t (width * j + q) 0) x ≡ true → 0 < getD marks (x / width) 0
-  twice : (q r : ℕ) → 0 < q → q < r → r < p → (x y : ℕ) → x < width * j → y < width * j → x / width ≡ y / width
-      → holds t (getD t (width * j + q) 0) x ≡ true → holds t (getD t (width * j + r) 0) y ≡ true → pairFits t (y / width) j ≡ true
+  once : (q : ℕ) → width * j < q → q < x → (y : ℕ) → y < width * j → holds t (getD t q 0) y ≡ true → 0 < getD marks (y / width) 0
+  twice : (q r : ℕ) → width * j < q → q < r → r < x → (y z : ℕ) → y < width * j → z < width * j → y / width ≡ z / width
+      → holds t (getD t q 0) y ≡ true → holds t (getD t r 0) z ≡ true → pairFits t (z / width) j ≡ true
 
-passed-more : {t : List ℕ} {j p : ℕ} {old new : List ℕ} {b : Bool} → Passed t j p old → Walked t j (getD t (width * j + p) 0) old new b → b ≡ true → Passed t j (p + 1) new
-passed-more {t} {j} {p} {old} {new} w k e = record {
-  high = omega arith;
+passed-more : {t : List ℕ} {j x : ℕ} {old new : List ℕ} {b : Bool} → Passed t j x old → Walked t j (getD t x 0) old new b → b ≡ true → Passed t j (x + 1) new
+passed-more {t} {j} {x} {old} {new} w k e = record {
+  high = let h = w .high in omega arith;
   seen = k .seen;
-  once = λ q h l. one q h l (eqb q p) refl;
-  twice = λ q r h l m. two q r h l m (eqb r p) refl;
+  once = λ q h l. one q h l (eqb q x) refl;
+  twice = λ q r h l m. two q r h l m (eqb r x) refl;
 }
   where
-    one : (q : ℕ) → 0 < q → q < p + 1 → (d : Bool) → eqb q p ≡ d → (x : ℕ) → x < width * j → holds t (getD t (width * j + q) 0) x ≡ true → 0 < getD new (x / width) 0
-    one q h l true z x m f = k .marked e x m (rw (eqb-true q p z) at f)
-    one q h l false z x m f = let n = eqb-false q p z in le-trans (w .once q h (omega arith) x m f) (k .grown (x / width))
+    one : (q : ℕ) → width * j < q → q < x + 1 → (d : Bool) → eqb q x ≡ d → (y : ℕ) → y < width * j → holds t (getD t q 0) y ≡ true → 0 < getD new (y / width) 0
+    one q h l true f y m g = k .marked e y m (rw (eqb-true q x f) at g)
+    one q h l false f y m g = let n = eqb-false q x f in le-trans (w .once q h (omega arith) y m g) (k .grown (y / width))
 
-    two : (q r : ℕ) → 0 < q → q < r → r < p + 1 → (d : Bool) → eqb r p ≡ d → (x y : ℕ) → x < width * j → y < width * j → x / width ≡ y / width
-        → holds t (getD t (width * j + q) 0) x ≡ true → holds t (getD t (width * j + r) 0) y ≡ true → pairFits t (y / width) j ≡ true
-    two q r h l m true z x y a b o f g =
-        let u = eqb-true r p z in
-        k .again e y b (rw u at g) (rw o at (w .once q h (omega arith) x a f))
-    two q r h l m false z x y a b o f g = let n = eqb-false r p z in w .twice q r h l (omega arith) x y a b o f g
+    two : (q r : ℕ) → width * j < q → q < r → r < x + 1 → (d : Bool) → eqb r x ≡ d → (y z : ℕ) → y < width * j → z < width * j → y / width ≡ z / width
+        → holds t (getD t q 0) y ≡ true → holds t (getD t r 0) z ≡ true → pairFits t (z / width) j ≡ true
+    two q r h l m true f y z a b o g n =
+        let u = eqb-true r x f in
+        k .again e z b (rw u at n) (rw o at (w .once q h (omega arith) y a g))
+    two q r h l m false f y z a b o g n = let u = eqb-false r x f in w .twice q r h l (omega arith) y z a b o g n
 
 misfit-here : {t : List ℕ} {j v : ℕ} {old new : List ℕ} {r : Bool} → Walked t j v old new r → r ≡ false → false ≡ not (ltb 0 (misfit t j))
 misfit-here {t} {j} k e = rw (lt-ltb 0 (misfit t j) (k .bad e))
 
-none-left : {t : List ℕ} {j p k : ℕ} {marks : List ℕ} → Passed t j p marks → WholeTable t (j + 1) → k ≡ kindOf (recordAt t j) → k < p → true ≡ not (ltb 0 (misfit t j))
-none-left {t} {j} {p} w whole e h = rw (misfit-none t j whole (λ q r l m n. w .twice q r l m (omega arith)))
+none-left : {t : List ℕ} {j x k : ℕ} {marks : List ℕ} → Passed t j x marks → WholeTable t (j + 1) → k ≡ kindOf (recordAt t j) → width * j + 1 + k ≤ x → true ≡ not (ltb 0 (misfit t j))
+none-left {t} {j} w whole e h = rw (misfit-none t j whole (λ q r l m n. w .twice (width * j + q) (width * j + r) (omega arith) (omega arith) (omega arith)))
 
 -- the kind of element j, which is at most 8
 kind-here : (t : List ℕ) (j : ℕ) {k f : ℕ} {r : List ℕ} → k ≡ f → f ≡ kindOf r → r ≡ recordAt t j → k ≡ kindOf (recordAt t j)
@@ -60,10 +60,10 @@ few-corners : (t : List ℕ) (j : ℕ) {k : ℕ} → WholeTable t (j + 1) → k 
 few-corners t j w e = rw e (kind-small (kindOf (recordAt t j)) (w .whole j (omega arith) .kind))
 
 abbrev Inv-loop : tie.InvT-loop
-Inv-loop table j heads links kind start seen₀ p₀ seen p = Passed table j p seen
+Inv-loop table j heads links kind start end seen₀ x₀ seen x = Passed table j x seen
 
 abbrev μ-loop : tie.MeasureT-loop
-μ-loop table j heads links kind start seen₀ p₀ seen p = kind + 1 - p
+μ-loop table j heads links kind start end seen₀ x₀ seen x = end - x
 
 record-at-requires : tie.Need-record-at-requires Inv-loop μ-loop
 record-at-requires c κs = search needs
@@ -77,37 +77,39 @@ wide-requires c κs = search needs
 mul-start : tie.Need-mul-start Inv-loop μ-loop
 mul-start c = omega (arith, c .before .before .before .before .pre .table .table .few)
 
+add-start : tie.Need-add-start Inv-loop μ-loop
+add-start c = omega (arith, c .before .before .before .before .pre .table .table .few)
+
+add-end : tie.Need-add-end Inv-loop μ-loop
+add-end c =
+    let h = few-corners (now (c .before .before .before .before .args .table)) (c .before .before .before .before .args .j) (c .before .before .before .before .pre .table .table) (kind-here (now (c .before .before .before .before .args .table)) (c .before .before .before .before .args .j) (c .wide .ensures) (c .before .kind-of .ensures) (c .before .before .record-at .ensures)) in
+    omega (arith, c .before .before .before .before .pre .table .table .few)
+
 loop-holds : tie.Need-loop-holds Inv-loop μ-loop
 loop-holds c =
     let a = c .before .before .before .before .args in
     record { high = omega arith; seen = seen-start (now (a .table)) (a .j); once = λ q h l. absurd (omega arith); twice = λ q r h l m. absurd (omega arith) }
 
-add-x : tie.Need-add-x Inv-loop μ-loop
-add-x c =
+mul-t14 : tie.Need-mul-t14 Inv-loop μ-loop
+mul-t14 c =
     let h = few-corners (now (c .before .before .before .before .before .before .args .table)) (c .before .before .before .before .before .before .args .j) (c .before .before .before .before .before .before .pre .table .table) (kind-here (now (c .before .before .before .before .before .before .args .table)) (c .before .before .before .before .before .before .args .j) (c .before .before .wide .ensures) (c .before .before .before .kind-of .ensures) (c .before .before .before .before .record-at .ensures)) in
     omega (arith, c .before .before .before .before .before .before .pre .table .table .few)
 
-mul-chain-fits : tie.Need-mul-chain-fits Inv-loop μ-loop
-mul-chain-fits c =
-    let h = few-corners (now (c .before .before .before .before .before .before .args .table)) (c .before .before .before .before .before .before .args .j) (c .before .before .before .before .before .before .pre .table .table) (kind-here (now (c .before .before .before .before .before .before .args .table)) (c .before .before .before .before .before .before .args .j) (c .before .before .wide .ensures) (c .before .before .before .kind-of .ensures) (c .before .before .before .before .record-at .ensures)) in
-    omega (arith, c .before .before .before .before .before .before .pre .table .table .few)
-
-shared-slice-read-chain-fits : tie.Need-shared-slice-read-chain-fits Inv-loop μ-loop
-shared-slice-read-chain-fits c =
+shared-slice-read-t16 : tie.Need-shared-slice-read-t16 Inv-loop μ-loop
+shared-slice-read-t16 c =
     let h = few-corners (now (c .before .before .before .before .before .before .before .args .table)) (c .before .before .before .before .before .before .before .args .j) (c .before .before .before .before .before .before .before .pre .table .table) (kind-here (now (c .before .before .before .before .before .before .before .args .table)) (c .before .before .before .before .before .before .before .args .j) (c .before .before .before .wide .ensures) (c .before .before .before .before .kind-of .ensures) (c .before .before .before .before .before .record-at .ensures)) in
     omega (arith, c .before .before .before .before .before .before .before .pre .table .table .long)
 
 chain-fits-requires : tie.Need-chain-fits-requires Inv-loop μ-loop
 chain-fits-requires c κs =
-    let a = c .before .before .before .before .before .before .before .before .args in
     let p = c .before .before .before .before .before .before .before .before .pre in
     let l = c .before .before .before .loop in
     let h = few-corners (now (c .before .before .before .before .before .before .before .before .args .table)) (c .before .before .before .before .before .before .before .before .args .j) (c .before .before .before .before .before .before .before .before .pre .table .table) (kind-here (now (c .before .before .before .before .before .before .before .before .args .table)) (c .before .before .before .before .before .before .before .before .args .j) (c .before .before .before .before .wide .ensures) (c .before .before .before .before .before .kind-of .ensures) (c .before .before .before .before .before .before .record-at .ensures)) in
-    let k : 0 < l .p = l .inv .high in
-    let n : l .p ≤ c .before .before .before .before .wide .result = c .before .before .loop-test .taken in
+    let k : width * c .before .before .before .before .before .before .before .before .args .j < l .x = l .inv .high in
+    let n : l .x < width * c .before .before .before .before .before .before .before .before .args .j + 1 + c .before .before .before .before .wide .result = c .before .before .loop-test .taken in
     record {
       table = p .table .table;
-      low = p .table .low (width * a .j + l .p) (omega arith) (omega arith);
+      low = p .table .low (l .x) (omega arith) (omega arith);
       filed = p .filed;
       seen = l .inv .seen;
     }
@@ -115,10 +117,10 @@ chain-fits-requires c κs =
 returns : tie.Need-returns Inv-loop μ-loop
 returns c = misfit-here (c .before .chain-fits .ensures) (not-true (c .before .chain-fits .result) (c .if1 .taken))
 
-add-p : tie.Need-add-p Inv-loop μ-loop
-add-p c =
+add-x : tie.Need-add-x Inv-loop μ-loop
+add-x c =
     let h = few-corners (now (c .before .before .before .before .before .before .before .before .before .before .args .table)) (c .before .before .before .before .before .before .before .before .before .before .args .j) (c .before .before .before .before .before .before .before .before .before .before .pre .table .table) (kind-here (now (c .before .before .before .before .before .before .before .before .before .before .args .table)) (c .before .before .before .before .before .before .before .before .before .before .args .j) (c .before .before .before .before .before .before .wide .ensures) (c .before .before .before .before .before .before .before .kind-of .ensures) (c .before .before .before .before .before .before .before .before .record-at .ensures)) in
-    omega arith
+    omega (arith, c .before .before .before .before .before .before .before .before .before .before .pre .table .table .few)
 
 loop-less : tie.Need-loop-less Inv-loop μ-loop
 loop-less c = omega arith
@@ -139,13 +141,14 @@ fits-all-spec =
     kind-of-requires
     wide-requires
     mul-start
+    add-start
+    add-end
     loop-holds
-    add-x
-    mul-chain-fits
-    shared-slice-read-chain-fits
+    mul-t14
+    shared-slice-read-t16
     chain-fits-requires
     returns
-    add-p
+    add-x
     loop-less
     loop-again
     returns-2)

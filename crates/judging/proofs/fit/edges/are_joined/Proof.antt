@@ -23,14 +23,24 @@ module _ (s : Solid) {f p q : ℕ} (first : f ≡ firstEdge s) (h : p < 9) (l : 
 first-edge-requires : tie.Need-first-edge-requires
 first-edge-requires c κs = search needs
 
+cast-edge-entry : tie.Need-cast-edge-entry
+cast-edge-entry c = search needs
+
 add-edge-entry : tie.Need-add-edge-entry
-add-edge-entry c = let h = inside (c .before .args .solid) (c .first-edge .ensures) (c .before .pre .0) (c .before .pre .1) in omega arith
+add-edge-entry c = let h = inside (c .before .before .args .solid) (c .before .first-edge .ensures) (c .before .before .pre .0) (c .before .before .pre .1) in omega arith
 
 edge-entry-requires : tie.Need-edge-entry-requires
-edge-entry-requires c κs = (inside (c .before .args .solid) (c .first-edge .ensures) (c .before .pre .0) (c .before .pre .1), c .before .pre .1)
+edge-entry-requires c κs = (inside (c .before .before .args .solid) (c .before .first-edge .ensures) (c .before .before .pre .0) (c .before .before .pre .1), c .before .before .pre .1)
 
 returns : tie.Need-returns
-returns c = entry (c .before .before .args .solid) (c .before .first-edge .ensures) (c .before .before .pre .0) (c .before .before .pre .1) (c .edge-entry .ensures)
+returns c = entry (c .before .before .before .args .solid) (c .before .before .first-edge .ensures) (c .before .before .before .pre .0) (c .before .before .before .pre .1) (c .edge-entry .ensures)
 
 pub are-joined-spec : {M : Type 1} → statement M
-are-joined-spec = tie.close (tie.spec first-edge-requires add-edge-entry edge-entry-requires returns)
+are-joined-spec =
+    tie.close
+    (tie.spec
+    first-edge-requires
+    cast-edge-entry
+    add-edge-entry
+    edge-entry-requires
+    returns)

@@ -6,6 +6,9 @@ use Rattle.judging.specs.FitLoops.{joined, edgeRows}
 use Rattle.judging.proofs.fit.edges.edge_entry.Statement.{statement}
 use Rattle.judging.proofs.fit.edges.edge_entry.Tie as tie
 
+cast-column : tie.Need-cast-column
+cast-column c = search needs
+
 mul-result : tie.Need-mul-result
 mul-result c = search needs
 
@@ -20,4 +23,4 @@ unfolding joined edgeRows
 returns c = refl
 
 pub edge-entry-spec : {M : Type 1} → statement M
-edge-entry-spec = tie.close (tie.spec mul-result index-1-result index-2-result returns)
+edge-entry-spec = tie.close (tie.spec cast-column mul-result index-1-result index-2-result returns)

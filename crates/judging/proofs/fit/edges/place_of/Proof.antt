@@ -37,7 +37,7 @@ module _ {v : ℕ} {vs : List ℕ} {i : ℕ} (w : Left v vs i) where
       omega (arith, w .place)
 
 abbrev Inv-loop : tie.InvT-loop
-Inv-loop vertex corners i₀ i = Left vertex corners i
+Inv-loop vertex corners i₀ i = Left (vertex .0) corners i
 
 abbrev μ-loop : tie.MeasureT-loop
 μ-loop vertex corners i₀ i = length corners - i
@@ -51,11 +51,14 @@ mul-if1 c = search needs
 shared-slice-read-if1 : tie.Need-shared-slice-read-if1 Inv-loop μ-loop
 shared-slice-read-if1 c = search needs
 
-add-result : tie.Need-add-result Inv-loop μ-loop
-add-result c = search needs
+add-t8 : tie.Need-add-t8 Inv-loop μ-loop
+add-t8 c = search needs
+
+cast-t9 : tie.Need-cast-t9 Inv-loop μ-loop
+cast-t9 c = omega (arith, c .before .before .before .before .before .pre, c .before .before .before .loop-test .taken)
 
 returns : tie.Need-returns Inv-loop μ-loop
-returns c = here (c .before .before .before .loop .inv) (c .before .before .loop-test .taken) (c .if1 .taken)
+returns c = here (c .before .before .before .before .loop .inv) (c .before .before .before .loop-test .taken) (c .if1 .taken)
 
 add-i : tie.Need-add-i Inv-loop μ-loop
 add-i c = search needs
@@ -64,7 +67,10 @@ loop-less : tie.Need-loop-less Inv-loop μ-loop
 loop-less c = search needs
 
 loop-again : tie.Need-loop-again Inv-loop μ-loop
-loop-again c = next (c .before .before .before .loop .inv) (c .before .before .loop-test .taken) (c .if1 .left)
+loop-again c = next (c .before .before .before .before .loop .inv) (c .before .before .before .loop-test .taken) (c .if1 .left)
+
+cast-t10 : tie.Need-cast-t10 Inv-loop μ-loop
+cast-t10 c = omega (arith, c .before .before .pre, c .before .loop .inv .high)
 
 returns-2 : tie.Need-returns-2 Inv-loop μ-loop
 returns-2 c = end (c .before .loop .inv) (c .loop-test .left)
@@ -78,9 +84,11 @@ place-of-spec =
     loop-holds
     mul-if1
     shared-slice-read-if1
-    add-result
+    add-t8
+    cast-t9
     returns
     add-i
     loop-less
     loop-again
+    cast-t10
     returns-2)

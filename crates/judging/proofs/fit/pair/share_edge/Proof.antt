@@ -9,11 +9,11 @@ use Rattle.judging.proofs.fit.pair.share_edge.Tie as tie
 returns : tie.Need-returns
 returns c = more-no-edge (now (c .before .before .before .before .args .vertices)) (c .before .before .before .before .args .solid) (now (c .before .before .before .before .args .corners)) (c .before .before .before .before .args .neighbour) (now (c .before .before .before .before .args .others)) (c .before .before .before .before .pre) (c .if1 .taken)
 
-shared-slice-read-u : tie.Need-shared-slice-read-u
-shared-slice-read-u c = omega (arith, c .before .before .before .before .before .pre .many)
+shared-slice-read-t11 : tie.Need-shared-slice-read-t11
+shared-slice-read-t11 c = omega (arith, c .before .before .before .before .before .pre .many)
 
-shared-slice-read-v : tie.Need-shared-slice-read-v
-shared-slice-read-v c = omega (arith, c .before .before .before .before .before .before .pre .many)
+shared-slice-read-t11-2 : tie.Need-shared-slice-read-t11-2
+shared-slice-read-t11-2 c = omega (arith, c .before .before .before .before .before .before .pre .many)
 
 has-edge-requires : tie.Need-has-edge-requires
 has-edge-requires c κs = ends-mine (now (c .before .before .before .before .before .before .args .vertices)) (c .before .before .before .before .before .before .args .solid) (now (c .before .before .before .before .before .before .args .corners)) (c .before .before .before .before .before .before .args .neighbour) (now (c .before .before .before .before .before .before .args .others)) (c .before .before .before .before .before .before .pre)
@@ -36,8 +36,8 @@ share-edge-spec =
     tie.close
     (tie.spec
     returns
-    shared-slice-read-u
-    shared-slice-read-v
+    shared-slice-read-t11
+    shared-slice-read-t11-2
     has-edge-requires
     has-edge-requires-2
     returns-2

@@ -21,11 +21,11 @@ abbrev μ-loop : tie.MeasureT-loop
 loop-holds : tie.Need-loop-holds Inv-loop μ-loop
 loop-holds c = left-start _ _
 
-mul-is-among : tie.Need-mul-is-among Inv-loop μ-loop
-mul-is-among c = search needs
+mul-t4 : tie.Need-mul-t4 Inv-loop μ-loop
+mul-t4 c = search needs
 
-shared-slice-read-is-among : tie.Need-shared-slice-read-is-among Inv-loop μ-loop
-shared-slice-read-is-among c = search needs
+shared-slice-read-t7 : tie.Need-shared-slice-read-t7 Inv-loop μ-loop
+shared-slice-read-t7 c = search needs
 
 is-among-requires : tie.Need-is-among-requires Inv-loop μ-loop
 is-among-requires c κs = search needs
@@ -52,8 +52,8 @@ all-among-spec =
     Inv-loop
     μ-loop
     loop-holds
-    mul-is-among
-    shared-slice-read-is-among
+    mul-t4
+    shared-slice-read-t7
     is-among-requires
     returns
     add-i

@@ -41,11 +41,11 @@ abbrev μ-loop : tie.MeasureT-loop
 loop-holds : tie.Need-loop-holds Inv-loop μ-loop
 loop-holds c = record { kept = kept-start _ _ _; size = refl }
 
-mul-v : tie.Need-mul-v Inv-loop μ-loop
-mul-v c = search needs
+mul-t7 : tie.Need-mul-t7 Inv-loop μ-loop
+mul-t7 c = search needs
 
-shared-slice-read-v : tie.Need-shared-slice-read-v Inv-loop μ-loop
-shared-slice-read-v c = search needs
+shared-slice-read-t10 : tie.Need-shared-slice-read-t10 Inv-loop μ-loop
+shared-slice-read-t10 c = search needs
 
 is-among-requires : tie.Need-is-among-requires Inv-loop μ-loop
 is-among-requires c κs = search needs
@@ -87,8 +87,8 @@ common-of-spec =
     Inv-loop
     μ-loop
     loop-holds
-    mul-v
-    shared-slice-read-v
+    mul-t7
+    shared-slice-read-t10
     is-among-requires
     mul-found
     slice-write-found

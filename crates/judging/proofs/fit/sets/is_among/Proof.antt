@@ -1,4 +1,4 @@
--- `judging::fit::sets::is_among` meets its contract. The loop's invariant: whether the number is among those that are left is whether it is among all.
+-- `judging::fit::sets::is_among` meets its contract. The loop's invariant: whether the vertex is among those that are left is whether it is among all.
 -- The measure is what is left of the length. Assumes nothing.
 use Prim.Native.Nat.{_-_}
 use borrow.Author.Needs.{needs}
@@ -11,7 +11,7 @@ use Rattle.judging.proofs.fit.sets.is_among.Statement.{statement}
 use Rattle.judging.proofs.fit.sets.is_among.Tie as tie
 
 abbrev Inv-loop : tie.InvT-loop
-Inv-loop v list i₀ i = Left (some (eqb v)) list i
+Inv-loop v list i₀ i = Left (some (eqb (v .0))) list i
 
 abbrev μ-loop : tie.MeasureT-loop
 μ-loop v list i₀ i = length list - i
@@ -26,7 +26,7 @@ shared-slice-read-if1 : tie.Need-shared-slice-read-if1 Inv-loop μ-loop
 shared-slice-read-if1 c = search needs
 
 returns : tie.Need-returns Inv-loop μ-loop
-returns c = some-here (eqb (c .before .before .before .before .args .v)) 0 (c .before .before .before .loop .inv) (c .before .before .loop-test .taken) (eq-eqb _ _ (c .if1 .taken))
+returns c = some-here (eqb (c .before .before .before .before .before .args .v .0)) 0 (c .before .before .before .before .loop .inv) (c .before .before .before .loop-test .taken) (eq-eqb _ _ (c .if1 .taken))
 
 add-i : tie.Need-add-i Inv-loop μ-loop
 add-i c = search needs
@@ -35,10 +35,10 @@ loop-less : tie.Need-loop-less Inv-loop μ-loop
 loop-less c = search needs
 
 loop-again : tie.Need-loop-again Inv-loop μ-loop
-loop-again c = some-next (eqb (c .before .before .before .before .args .v)) 0 (c .before .before .before .loop .inv) (c .before .before .loop-test .taken) (ne-eqb _ _ (c .if1 .left))
+loop-again c = some-next (eqb (c .before .before .before .before .before .args .v .0)) 0 (c .before .before .before .before .loop .inv) (c .before .before .before .loop-test .taken) (ne-eqb _ _ (c .if1 .left))
 
 returns-2 : tie.Need-returns-2 Inv-loop μ-loop
-returns-2 c = some-end (eqb (c .before .before .args .v)) 0 (c .before .loop .inv) (c .loop-test .left)
+returns-2 c = some-end (eqb (c .before .before .args .v .0)) 0 (c .before .loop .inv) (c .loop-test .left)
 
 pub is-among-spec : {M : Type 1} → statement M
 is-among-spec =

@@ -5,8 +5,8 @@ use denote.Ref.{now}
 use Rattle.mesh.proofs.BlockLaws.{block-same}
 use Rattle.mesh.proofs.RecordCutLaws.{cut-by-row, cut-by-fan, fan-few}
 use borrow.Author.Needs.{needs}
-use Rattle.mesh.proofs.blocks.block_of.Statement.{statement}
-use Rattle.mesh.proofs.blocks.block_of.Tie as tie
+use Rattle.mesh.proofs.blocks.fill_block.Statement.{statement}
+use Rattle.mesh.proofs.blocks.fill_block.Tie as tie
 
 kind-of-requires : tie.Need-kind-of-requires
 kind-of-requires c κs = search needs
@@ -33,6 +33,6 @@ returns-2 c =
     let kind = c .before .before .before .kind-of .ensures in
     block-same (cut-by-fan (now (s .args .numbers)) (s .pre .0) (λ e. c .before .before .if1 .left (kind ∙ e))) (c .fan-block .ensures)
 
-pub block-of-spec : {M : Type 1} → statement M
-block-of-spec =
+pub fill-block-spec : {M : Type 1} → statement M
+fill-block-spec =
     tie.close (tie.spec kind-of-requires row-block-requires returns fan-block-requires returns-2)
