@@ -6,7 +6,7 @@ use mathlib.Core.List.{List, _∷_, _++_, List·Memᴰ}
 use Prim.Native.Nat.{ℕ, _+_, _*_, _≤_, _<_}
 use lib.Dec.{T, eqb}
 use lib.ListN.{length, getD}
-use Rattle.laws.specs.Words.{every, gather}
+use Rattle.laws.specs.Words.{every, gather, among}
 use Rattle.faults.specs.declared.Finding.{Finding}
 use Rattle.faults.specs.declared.Finding.the-variants.{Clean}
 use Rattle.solids.specs.declared.Solid.{Solid}
@@ -42,6 +42,10 @@ count-unique t a b = one
 -- `record_at`
 pub record-unique : (t : List ℕ) (k : ℕ) (a b : List ℕ) → a ≡ recordAt t k → b ≡ recordAt t k → a ≡ b
 record-unique t k a b = one
+
+-- `is_among`
+pub among-unique : (v : ℕ) (l : List ℕ) (a b : Bool) → a ≡ among v l → b ≡ among v l → a ≡ b
+among-unique v l a b = one
 
 -- `judge_record`
 pub judgement-unique : (limit : ℕ) (r : List ℕ) (a b : Finding) → a ≡ recordFinding limit r → b ≡ recordFinding limit r → a ≡ b

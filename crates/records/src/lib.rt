@@ -127,16 +127,16 @@ fn has_nonzero(spare: &[u16]) -> bool
     false
 }
 
-// The vertex number is among the numbers.
-fn is_among(vertex: u16, numbers: &[u16]) -> bool
-    ensures { λ r. ⌜ r ≡ among vertex (now (numbers .entry)) ⌝ }
+// The vertex is among those of the list.
+pub fn is_among(v: Vertex, list: &[u16]) -> bool
+    ensures { λ r. ⌜ r ≡ among (v .0) (now (list .entry)) ⌝ }
 {
-    let mut i = 0;
-    while i < numbers.len() {
-        if vertex == numbers[i] {
+    let mut k = 0;
+    while k < list.len() {
+        if v.0 == list[k] {
             return true;
         }
-        i += 1;
+        k += 1;
     }
     false
 }
@@ -148,7 +148,7 @@ fn is_distinct(numbers: &[u16]) -> bool
     let mut i = 0;
     while i < numbers.len() {
         let next = i + 1;
-        if is_among(numbers[i], &numbers[next..]) {
+        if is_among(Vertex(numbers[i]), &numbers[next..]) {
             return false;
         }
         i = next;

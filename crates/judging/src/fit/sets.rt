@@ -7,27 +7,13 @@ ghost use Rattle.solids.specs.Fit.{sameSet};
 ghost use Rattle.judging.specs.FitLoops.{Collected};
 use solids::Vertex;
 
-// The vertex is among those of the list.
-fn is_among(v: Vertex, list: &[u16]) -> bool
-    ensures { λ r. ⌜ r ≡ among (v .0) (now (list .entry)) ⌝ }
-{
-    let mut i = 0;
-    while i < list.len() {
-        if v.0 == list[i] {
-            return true;
-        }
-        i += 1;
-    }
-    false
-}
-
 // Each number of the list is among the others.
 fn all_among(list: &[u16], others: &[u16]) -> bool
     ensures { λ r. ⌜ r ≡ every (λ v. among v (now (others .entry))) (now (list .entry)) ⌝ }
 {
     let mut i = 0;
     while i < list.len() {
-        if !is_among(Vertex(list[i]), others) {
+        if !records::is_among(Vertex(list[i]), others) {
             return false;
         }
         i += 1;
@@ -54,7 +40,7 @@ pub fn common_of(corners: &[u16], others: &[u16], found: &mut [u16]) -> usize
     let mut i = 0;
     while i < corners.len() {
         let v = Vertex(corners[i]);
-        if is_among(v, others) {
+        if records::is_among(v, others) {
             found[count] = v.0;
             count += 1;
         }

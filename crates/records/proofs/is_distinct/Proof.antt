@@ -27,14 +27,14 @@ loop-holds c = left-start _ _
 add-next : tie.Need-add-next Inv-loop μ-loop
 add-next c = search needs
 
+mul-t4 : tie.Need-mul-t4 Inv-loop μ-loop
+mul-t4 c = search needs
+
+shared-slice-read-t8 : tie.Need-shared-slice-read-t8 Inv-loop μ-loop
+shared-slice-read-t8 c = search needs
+
 mul-is-among : tie.Need-mul-is-among Inv-loop μ-loop
 mul-is-among c = search needs
-
-shared-slice-read-is-among : tie.Need-shared-slice-read-is-among Inv-loop μ-loop
-shared-slice-read-is-among c = search needs
-
-mul-is-among-2 : tie.Need-mul-is-among-2 Inv-loop μ-loop
-mul-is-among-2 c = search needs
 
 sub-is-among : tie.Need-sub-is-among Inv-loop μ-loop
 sub-is-among c = search needs
@@ -72,9 +72,9 @@ is-distinct-spec =
     μ-loop
     loop-holds
     add-next
+    mul-t4
+    shared-slice-read-t8
     mul-is-among
-    shared-slice-read-is-among
-    mul-is-among-2
     sub-is-among
     part-is-among-start
     part-is-among-end
