@@ -34,7 +34,7 @@ use Rattle.mesh.proofs.MeshCutLaws.{cutTo, cut-none}
 pub judging-at : (v n : ℕ) (t : List ℕ) {r s : JudgeAnswer} → r ≡ s → JudgeDone v n t r → Judging v n t s
 judging-at v n t {r} {s} e h = judge-told v n t s (rw e at h)
 
--- no records are whole
+-- a table of no records is whole
 none-whole : (t : List ℕ) → WholeTable t 0
 none-whole t = record { few = omega arith; long = omega arith; whole = λ k l. absurd (omega arith) }
 
