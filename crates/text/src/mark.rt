@@ -3,47 +3,23 @@ use crate::constants::MARK_WIDTH;
 use crate::terms::Mark;
 use crate::terms::Role;
 ghost use mathlib.Core.Path.{_≡_};
-ghost use mathlib.Core.Bool.{_&&_};
-ghost use lib.Dec.{eqb};
 ghost use Rattle.text.specs.Line.{markWith, markOf, wants, roleOf};
 ghost use Rattle.text.specs.Records.{tipFirst};
 
-// Whether a and b are the bytes x and y.
-fn spells(a: u8, b: u8, x: u8, y: u8) -> bool
-    ensures { λ r. ⌜ r ≡ (eqb a x && eqb b y) ⌝ }
-{
-    if a == x {
-        return b == y;
-    }
-    false
-}
-
-// The mark with the bytes a and b.
+// The mark with the bytes a and b, read as one number of two bytes: 0x56 is V, 0x58 is X, and so on.
 fn mark_with(a: u8, b: u8) -> Mark
     ensures { λ r. ⌜ r ≡ markWith a b ⌝ }
 {
-    if spells(a, b, b'V', b'X') {
-        return Mark::Vx;
+    match (a as u16) * 256 + (b as u16) {
+        0x5658 => Mark::Vx,
+        0x5445 => Mark::Te,
+        0x5059 => Mark::Py,
+        0x505a => Mark::Pz,
+        0x5052 => Mark::Pr,
+        0x4858 => Mark::Hx,
+        0x454e => Mark::En,
+        _ => Mark::Unknown,
     }
-    if spells(a, b, b'T', b'E') {
-        return Mark::Te;
-    }
-    if spells(a, b, b'P', b'Y') {
-        return Mark::Py;
-    }
-    if spells(a, b, b'P', b'Z') {
-        return Mark::Pz;
-    }
-    if spells(a, b, b'P', b'R') {
-        return Mark::Pr;
-    }
-    if spells(a, b, b'H', b'X') {
-        return Mark::Hx;
-    }
-    if spells(a, b, b'E', b'N') {
-        return Mark::En;
-    }
-    Mark::Unknown
 }
 
 // The mark with which a line starts.
