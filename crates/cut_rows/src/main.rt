@@ -2,7 +2,7 @@
 use libc::STDOUT_FILENO;
 
 fn print_place(row: usize, at: usize) {
-    let place = solids::row_place(row, at);
+    let place = places::row_place(row, at);
     if 0 < at {
         io::write_all(STDOUT_FILENO, b" ");
     }

@@ -211,10 +211,10 @@ fn opposite_place(place: Place) -> Place
 fn face_of(numbers: &[u16], solid: Solid, i: usize) -> Face
     ensures { λ r. ⌜ faceOf r ≡ faceIn solid (usedOf (now (numbers .entry))) i ⌝ }
 {
-    let p = vertex_at(numbers, solids::face_place(solid, i, 0));
-    let q = vertex_at(numbers, solids::face_place(solid, i, 1));
-    let r = vertex_at(numbers, solids::face_place(solid, i, 2));
-    let last = solids::face_place(solid, i, 3);
+    let p = vertex_at(numbers, places::face_place(solid, i, 0));
+    let q = vertex_at(numbers, places::face_place(solid, i, 1));
+    let r = vertex_at(numbers, places::face_place(solid, i, 2));
+    let last = places::face_place(solid, i, 3);
     if last.0 == 0 {
         return Face::Three(p, q, r);
     }
@@ -521,7 +521,7 @@ fn fan_block(numbers: &[u16], keys: &mut [u64; 6]) -> usize
     let solid = records::solid_of(records::kind_of(numbers));
     let low = vertex_at(numbers, lowest_place(numbers));
     let mut n = 0;
-    let mut i = solids::face_count(solid);
+    let mut i = places::face_count(solid);
     while 0 < i {
         i -= 1;
         let face = face_of(numbers, solid, i);

@@ -116,7 +116,7 @@ pub fn cut_all(table: &[u16], n: usize, out: &mut [u16])
     requires { ⌜ tetrahedronWidth * length (cutMesh (firstElements (now table) n)) ≤ length (now out) ⌝ }
     ensures { λ _. ⌜ now (out .exit) ≡ laid (flat (cutMesh (firstElements (now (table .entry)) n))) (now (out .entry)) ⌝ }
 {
-    let cuts = solids::cut_places();
+    let cuts = places::cut_places();
     cut_each(table, n, &cuts, out);
 }
 

@@ -271,7 +271,7 @@ pub fn count_signs(table: &[u16], n: usize, vertices: &[i32]) -> SignCounts
     requires { ⌜ SitedTable (now vertices) (now table) n ⌝ }
     ensures { λ r. ⌜ ofCounts r ≡ signCounts (now (vertices .entry)) (firstElements (now (table .entry)) n) ⌝ }
 {
-    let cuts = solids::cut_places();
+    let cuts = places::cut_places();
     count_each(table, n, &cuts, vertices)
 }
 

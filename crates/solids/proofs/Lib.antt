@@ -1,5 +1,4 @@
 pub mod SampleLaws
-pub mod TableLaws
 pub mod AscendingLaws
 pub mod WrittenLaws
 pub mod RenamingLaws

@@ -8,4 +8,3 @@ pub mod Samples
 pub mod Fit
 pub mod Surface
 pub mod Listings
-pub mod Loops

@@ -34,10 +34,10 @@ fn vertex_at(corners: &[u16], place: Place) -> Vertex
 pub fn face_of(solid: Solid, corners: &[u16], face: usize) -> Cycle
     ensures { λ r. ⌜ faceOf r ≡ getD (facesOf (element solid (now (corners .entry)))) face (three 0 0 0) ⌝ }
 {
-    let p = vertex_at(corners, solids::face_place(solid, face, 0));
-    let q = vertex_at(corners, solids::face_place(solid, face, 1));
-    let r = vertex_at(corners, solids::face_place(solid, face, 2));
-    let last = solids::face_place(solid, face, 3);
+    let p = vertex_at(corners, places::face_place(solid, face, 0));
+    let q = vertex_at(corners, places::face_place(solid, face, 1));
+    let r = vertex_at(corners, places::face_place(solid, face, 2));
+    let last = places::face_place(solid, face, 3);
     if last.0 == 0 {
         return Cycle::Three(p, q, r);
     }

@@ -41,7 +41,7 @@ fn share_edge(
 fn has_face(cycle: Cycle, solid: Solid, corners: &[u16]) -> bool
     ensures { λ r. ⌜ r ≡ some (sameFace (faceOf cycle)) (facesOf (element solid (now (corners .entry)))) ⌝ }
 {
-    let n = solids::face_count(solid);
+    let n = places::face_count(solid);
     let mut i = 0;
     while i < n {
         if cycles::same(cycle, cycles::face_of(solid, corners, i)) {
@@ -72,7 +72,7 @@ fn share_face(
 ) -> bool
     ensures { λ r. ⌜ r ≡ shareFace (now (vertices .entry)) (element solid (now (corners .entry))) (element neighbour (now (others .entry))) ⌝ }
 {
-    let n = solids::face_count(solid);
+    let n = places::face_count(solid);
     let mut i = 0;
     while i < n {
         if is_shared(

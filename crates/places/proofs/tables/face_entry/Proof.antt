@@ -1,10 +1,10 @@
--- `solids::tables::face_entry` meets its contract: the code's table of faces is the page's.
+-- `places::tables::face_entry` meets its contract: the code's table of faces is the page's.
 -- Assumes nothing.
 use borrow.Author.Needs.{needs}
 use mathlib.Core.Path.{refl}
-use Rattle.solids.specs.Loops.{faceRows}
-use Rattle.solids.proofs.tables.face_entry.Statement.{statement}
-use Rattle.solids.proofs.tables.face_entry.Tie as tie
+use Rattle.places.specs.Loops.{faceRows}
+use Rattle.places.proofs.tables.face_entry.Statement.{statement}
+use Rattle.places.proofs.tables.face_entry.Tie as tie
 
 mul-result : tie.Need-mul-result
 mul-result c = search needs

@@ -12,9 +12,11 @@ use lib.Dec.{T, eqb, leb, eqb→eq, leb→le}
 use lib.ListN.{length, getD, length-map, List·getD-append, List·getD-eq-default}
 use lib.Seq.{getD-append-add}
 use Rattle.laws.specs.Words.{every, gather}
-use Rattle.solids.specs.Solids.{Solid, tetrahedron, pyramid, prism, hexahedron, Face, three, four, faces, faceCount, faceCorners, facePlace, ofFace}
+use Rattle.solids.specs.declared.Solid.{Solid}
+use Rattle.solids.specs.declared.Solid.the-variants.{Tetrahedron, Pyramid, Prism, Hexahedron}
+use Rattle.solids.specs.Solids.{Face, three, four, faces, faceCount, faceCorners, facePlace, ofFace}
 use Rattle.solids.specs.Rows.{hexRows, cutPlaces, rowPlaces, rowPlace}
-use Rattle.solids.specs.Loops.{faceRows, firstFace}
+use Rattle.places.specs.Loops.{faceRows, firstFace}
 use Rattle.laws.proofs.TestLaws.{and-left, and-right, below, at-below}
 
 -- ---- the faces
@@ -25,10 +27,10 @@ faceRight s i k = eqb (facePlace s i k) (getD (getD faceRows (firstFace s + i) [
 
 faces-right : (s : Solid) → T (below (faceCount s) (λ i. below 4 (faceRight s i)))
 unfolding facePlace faceCorners faceRows
-faces-right tetrahedron = tt
-faces-right pyramid = tt
-faces-right prism = tt
-faces-right hexahedron = tt
+faces-right Tetrahedron = tt
+faces-right Pyramid = tt
+faces-right Prism = tt
+faces-right Hexahedron = tt
 
 pub face-entry : (s : Solid) (i k : ℕ) → i < faceCount s → k < 4 → facePlace s i k ≡ getD (getD faceRows (firstFace s + i) []) k 0
 face-entry s i k h j =
@@ -37,10 +39,10 @@ face-entry s i k h j =
 
 -- the faces of all solids stand in the table
 pub face-inside : (s : Solid) → firstFace s + faceCount s ≤ 20
-face-inside tetrahedron = leb→le 4 20 tt
-face-inside pyramid = leb→le 9 20 tt
-face-inside prism = leb→le 14 20 tt
-face-inside hexahedron = leb→le 20 20 tt
+face-inside Tetrahedron = leb→le 4 20 tt
+face-inside Pyramid = leb→le 9 20 tt
+face-inside Prism = leb→le 14 20 tt
+face-inside Hexahedron = leb→le 20 20 tt
 
 pub face-beyond : (s : Solid) (i k : ℕ) → faceCount s ≤ i → facePlace s i k ≡ 0
 unfolding facePlace faceCorners
@@ -139,10 +141,10 @@ row-place-small r k = go (at-row hexRows rowFits rows-fit r)
     go (inr e) = rw (ap (λ (l : List ℕ). getD l k 0) e) zero-le
 
 faces-fit : (s : Solid) → T (every (λ F. every (λ p. leb p 8) (ofFace F)) (faces s))
-faces-fit tetrahedron = tt
-faces-fit pyramid = tt
-faces-fit prism = tt
-faces-fit hexahedron = tt
+faces-fit Tetrahedron = tt
+faces-fit Pyramid = tt
+faces-fit Prism = tt
+faces-fit Hexahedron = tt
 
 face-at : (fs : List (Face ℕ)) → T (every (λ F. every (λ p. leb p 8) (ofFace F)) fs) → (i k : ℕ) → getD (getD (map ofFace fs) i []) k 0 ≤ 8
 face-at [] h i k = zero-le

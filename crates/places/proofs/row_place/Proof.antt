@@ -1,10 +1,10 @@
--- `solids::row_place` meets its contract: the place is that of the row, and outside the table there is none.
+-- `places::row_place` meets its contract: the place is that of the row, and outside the table there is none.
 -- Assumes nothing.
 use borrow.Author.Needs.{needs}
 use mathlib.Core.Path.{sym, _∙_}
-use Rattle.solids.proofs.TableLaws.{row-beyond, entry-beyond, row-entry}
-use Rattle.solids.proofs.row_place.Statement.{statement}
-use Rattle.solids.proofs.row_place.Tie as tie
+use Rattle.places.proofs.TableLaws.{row-beyond, entry-beyond, row-entry}
+use Rattle.places.proofs.row_place.Statement.{statement}
+use Rattle.places.proofs.row_place.Tie as tie
 
 returns : tie.Need-returns
 returns c = sym (row-beyond (c .before .args .row) (c .before .args .at) (c .if1 .taken))

@@ -1,4 +1,4 @@
--- `solids::face_place` meets its contract: the place is that of the face, and where there is no such face or corner there is none.
+-- `places::face_place` meets its contract: the place is that of the face, and where there is no such face or corner there is none.
 -- Assumes nothing.
 use borrow.Author.Needs.{needs}
 use native.Mathlib.Omega.{arith}
@@ -6,11 +6,12 @@ use Prim.Native.Nat.{ℕ, _+_, _≤_, _<_}
 use lib.ListN.{getD}
 use mathlib.Core.Path.{_≡_, sym, _∙_, ap}
 use mathlib.Core.List.{[]}
-use Rattle.solids.specs.Solids.{Solid, faceCount, facePlace}
-use Rattle.solids.specs.Loops.{firstFace, faceRows}
-use Rattle.solids.proofs.TableLaws.{face-beyond, corner-beyond, face-entry, face-inside}
-use Rattle.solids.proofs.face_place.Statement.{statement}
-use Rattle.solids.proofs.face_place.Tie as tie
+use Rattle.solids.specs.declared.Solid.{Solid}
+use Rattle.solids.specs.Solids.{faceCount, facePlace}
+use Rattle.places.specs.Loops.{firstFace, faceRows}
+use Rattle.places.proofs.TableLaws.{face-beyond, corner-beyond, face-entry, face-inside}
+use Rattle.places.proofs.face_place.Statement.{statement}
+use Rattle.places.proofs.face_place.Tie as tie
 
 -- what the code's counts say, over plain numbers
 beyond : (s : Solid) (n i k : ℕ) → n ≡ faceCount s → n ≤ i → 0 ≡ facePlace s i k

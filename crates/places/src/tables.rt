@@ -3,8 +3,8 @@ ghost use mathlib.Core.Path.{_≡_};
 ghost use mathlib.Core.List.{[]};
 ghost use Prim.Native.Nat.{_<_};
 ghost use lib.ListN.{getD};
 ghost use Rattle.solids.specs.Rows.{cutPlaces};
-ghost use Rattle.solids.specs.Loops.{faceRows};
+ghost use Rattle.places.specs.Loops.{faceRows};
 
 // The faces of the tetrahedron, the pyramid, the prism and the hexahedron; the fourth place of a triangle is 0.
 const FACES: [[u8; 4]; 20] = [

@@ -1,10 +1,10 @@
--- `solids::tables::cut_entry` meets its contract: the code's table of cuts is the page's.
+-- `places::tables::cut_entry` meets its contract: the code's table of cuts is the page's.
 -- Assumes nothing.
 use borrow.Author.Needs.{needs}
 use mathlib.Core.Path.{refl}
 use Rattle.solids.specs.Rows.{hexRows, cutPlaces}
-use Rattle.solids.proofs.tables.cut_entry.Statement.{statement}
-use Rattle.solids.proofs.tables.cut_entry.Tie as tie
+use Rattle.places.proofs.tables.cut_entry.Statement.{statement}
+use Rattle.places.proofs.tables.cut_entry.Tie as tie
 
 array-read-result : tie.Need-array-read-result
 array-read-result c = search needs

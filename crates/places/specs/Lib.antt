@@ -1,0 +1,2 @@
+-- What only the tables of the code want.
+pub mod Loops
