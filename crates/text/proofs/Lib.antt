@@ -10,6 +10,8 @@ pub mod FieldLaws
 pub mod LineLaws
 pub mod FileLaws
 pub mod RecordLaws
+pub mod CopyLaws
+pub mod KeptLaws
 pub mod ReadLaws
 pub mod AcceptedLaws
 pub mod Theorems
