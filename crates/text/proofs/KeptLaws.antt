@@ -18,7 +18,7 @@ use Rattle.text.specs.Constants.{lineEnd, fileLimit, vertexLimit, elemen
 use Rattle.text.specs.Line.{markOf, roleOf, tooMany, afterRole, after, lineVerdict}
 use Rattle.text.specs.File.{start, linesOf, atEnd, fileFrom, fileVerdict}
 use Rattle.text.specs.Records.{vertexRecords, elementRecords, recordsFrom, ofAccepted, verdictOf}
-use Rattle.text.specs.Loops.{Few, Own, Ready, StoredLine, LineTaken, FileRead, countsIn}
+use Rattle.text.specs.Loops.{Few, Own, Ready, StoredLine, LineTaken, LineRead, FileRead, countsIn}
 use Rattle.text.specs.declared.ReadAnswer.{ReadAnswer}
 use Rattle.text.specs.declared.ReadAnswer.the-variants.{Done, Refused}
 use Rattle.text.specs.declared.terms.Role.{Role}
@@ -26,6 +26,8 @@ use Rattle.text.specs.declared.terms.Role.the-variants.{VertexLine, Elem
 use Rattle.text.specs.declared.terms.ReaderState.{ReaderState}
 use Rattle.text.specs.declared.terms.Rooms.{Rooms}
 use Rattle.text.specs.declared.terms.Line.the-variants.{Next}
+use Rattle.text.specs.declared.terms.Step.{Step}
+use Rattle.text.specs.declared.terms.Step.the-variants as step
 use Rattle.text.proofs.FileLaws.{line-taken, file-end}
 use Rattle.text.proofs.RecordLaws.{vertexPlace, elementPlace, vertex-grows, element-grows, kept-front, records-none, records-line}
 
@@ -80,6 +82,22 @@ module _ (t : List ℕ) (rooms : Rooms) (state : ReaderState) (vertices : List �
             kept-front elements elements′ _ _ _ (s .elementTable) (ap elementPlace q ∙ element-grows state (take r t))
             (omega (arith, ready .own .elementLength, i .fewElements));
       }
+
+-- tables with the same records before the line
+pub line-from : (t : List ℕ) (rooms : Rooms) (state : ReaderState) (vertices vertices′ : List ℤ) (elements elements′ : List ℕ)
+    → take (vertexPlace state) vertices′ ≡ take (vertexPlace state) vertices → take (elementPlace state) elements′ ≡ take (elementPlace state) elements
+    → (r : Step) (v : List ℤ) (e : List ℕ) → LineRead t rooms state vertices′ elements′ r v e → LineRead t rooms state vertices elements r v e
+line-from t rooms state vertices vertices′ elements elements′ p q (step.Next next n) v e k = record {
+  line = k .line;
+  cut = k .cut;
+  some = k .some;
+  inside = k .inside;
+  verdict = k .verdict;
+  own = k .own;
+  vertexTable = k .vertexTable ∙ rw p;
+  elementTable = k .elementTable ∙ rw q;
+}
+line-from t rooms state vertices vertices′ elements elements′ p q (step.No f) v e k = k
 
 -- ---- the lines in order
 

@@ -8,3 +8,4 @@ pub mod Written
 pub mod Writing
 pub mod WriteLoops
 pub mod Loops
+pub mod QuickLoops

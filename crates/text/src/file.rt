@@ -5,8 +5,12 @@ use crate::constants::ELEMENT_NUMBERS;
 use crate::constants::FILE_LIMIT;
 use crate::constants::LINE_END;
 use crate::constants::VERTEX_NUMBERS;
+use crate::line::after;
 use crate::line::judge_line;
 use crate::line::open_line;
+use crate::mark::mark_of;
+use crate::mark::role_of;
+use crate::quick::quick_line;
 use crate::scan::find;
 use crate::scan::from;
 use crate::scan::until;
@@ -47,8 +51,8 @@ fn at_end(state: ReaderState, n: usize) -> ReadAnswer
     refused(Fault::End, n)
 }
 
-// The line at the front of a text, judged; its record is kept where it is accepted.
-fn read_line(
+// The line at the front of a text, judged test by test; its record is kept where it is accepted.
+fn judged_line(
     t: &[u8],
     rooms: Rooms,
     state: ReaderState,
@@ -69,6 +73,25 @@ fn read_line(
             Step::Next(next, r + 1)
         }
     }
+}
+
+// The line at the front of a text: read quickly where it is beyond question, else judged.
+fn read_line(
+    t: &[u8],
+    rooms: Rooms,
+    state: ReaderState,
+    vertices: &mut [i32; VERTEX_NUMBERS],
+    elements: &mut [u16; ELEMENT_NUMBERS],
+) -> Step
+    requires { ⌜ Ready (now t) state (now vertices) (now elements) ⌝ }
+    ensures { λ r. ⌜ LineRead (now (t .entry)) rooms state (now (vertices .entry)) (now (elements .entry)) r (now (vertices .exit)) (now (elements .exit)) ⌝ }
+{
+    let mark = mark_of(t);
+    let n = quick_line(t, mark, rooms, state, vertices, elements);
+    if n == 0 {
+        return judged_line(t, rooms, state, vertices, elements);
+    }
+    Step::Next(after(state, role_of(mark)), n)
 }
 
 // The verdict on a file for lent tables of that room; the records of an accepted one are kept from the front of both tables.

@@ -5,6 +5,7 @@ mod file;
 mod line;
 mod mark;
 mod number;
+mod quick;
 mod scan;
 mod store;
 pub mod terms;

@@ -119,12 +119,7 @@ fn store_element(l: &[u8], role: Role, state: ReaderState, table: &mut [u16])
 }
 
 // The record of a line, after those of the lines before it.
-pub fn keep_line(
-    l: &[u8],
-    state: ReaderState,
-    vertices: &mut [i32],
-    elements: &mut [u16],
-)
+pub fn keep_line(l: &[u8], state: ReaderState, vertices: &mut [i32], elements: &mut [u16])
     requires { ⌜ Few state ⌝ }
     ensures { λ _. ⌜ StoredLine (now (l .entry)) state (now (vertices .entry)) (now (elements .entry)) (now (vertices .exit)) (now (elements .exit)) ⌝ }
 {

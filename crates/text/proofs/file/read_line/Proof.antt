@@ -1,91 +1,43 @@
--- `text::file::read_line` judges the line at the front of a text, and keeps its record. Assumes nothing.
-use Prim.Native.Nat.{_<_}
-use native.Mathlib.Nat.{le-of-eq}
-use native.Mathlib.Omega.{arith}
-use mathlib.Core.Path.{_≡_, sym, _∙_}
-use denote.Ref.{now}
-use lib.ListN.{length}
-use Rattle.text.proofs.FileLaws.{file-open, file-no}
-use Rattle.text.proofs.KeptLaws.{ready-few, line-kept}
+-- `text::file::read_line` takes the line at the front of a text, quickly or test by test. Assumes nothing.
+use Rattle.text.proofs.KeptLaws.{line-from}
 use borrow.Author.Needs.{needs}
 use Rattle.text.proofs.file.read_line.Statement.{statement}
 use Rattle.text.proofs.file.read_line.Tie as tie
 
-find-requires : tie.Need-find-requires
-find-requires c κs = search needs
+mark-of-requires : tie.Need-mark-of-requires
+mark-of-requires c κs = search needs
 
-open-line-requires : tie.Need-open-line-requires
-open-line-requires c κs = search needs
+quick-line-requires : tie.Need-quick-line-requires
+quick-line-requires c κs = search needs
+
+judged-line-requires : tie.Need-judged-line-requires
+judged-line-requires c κs = search needs
 
 returns : tie.Need-returns
 returns c =
-    let start = c .before .before .before .before in
-    let find = c .before .before .find in
-    let if1 = c .before .if1 in
-    λ n.
-        file-open _ _ n _ _ (find .ensures) (start .pre .some) (le-of-eq (sym (if1 .taken)))
-        ∙ rw (c .open-line .ensures)
+    let a = c .before .before .before .before .before .before .before .before .before .args in
+    let q = c .before .before .before .before .quick-line in
+    let j = c .judged-line in
+    line-from (a .t .now) (a .rooms) (a .state) (a .vertices .now) (q .last .1 .1 .1 .1 .0) (a .elements .now) (q .last .1 .1 .1 .1 .1 .0)
+    (q .ensures .vertexFront) (q .ensures .elementFront) (j .result) (j .last .1 .1 .1 .0) (j .last .1 .1 .1 .1 .0) (j .ensures)
 
-until-requires : tie.Need-until-requires
-until-requires c κs = search needs
+role-of-requires : tie.Need-role-of-requires
+role-of-requires c κs = search needs
 
-judge-line-requires : tie.Need-judge-line-requires
-judge-line-requires c κs = ready-few (c .before .before .before .before .pre)
-
-enum-known-fault : tie.Need-enum-known-fault
-enum-known-fault c = search needs
-
-enum-known-next : tie.Need-enum-known-next
-enum-known-next c = search needs
-
-until-requires-2 : tie.Need-until-requires-2
-until-requires-2 c κs = search needs
-
-keep-line-requires : tie.Need-keep-line-requires
-keep-line-requires c κs = ready-few (c .before .before .before .before .before .before .before .before .before .before .before .pre)
-
-add-t21 : tie.Need-add-t21
-add-t21 c = search needs
+after-requires : tie.Need-after-requires
+after-requires c κs = search needs
 
 returns-2 : tie.Need-returns-2
-returns-2 c =
-    let find = c .before .before .before .before .before .before .find in
-    let if1 = c .before .before .before .before .before .if1 in
-    let until = c .before .before .before .before .until in
-    let judge-line = c .before .before .before .judge-line in
-    let fault = c .before .fault in
-    let t = now (c .before .before .before .before .before .before .before .before .args .t) in
-    let h : find .result < length t = omega (arith, find .ensures .high, if1 .left) in
-    λ n. file-no _ _ n _ _ (find .ensures) _ h (rw (← until .ensures) (sym (judge-line .ensures) ∙ fault .given .1))
-
-returns-3 : tie.Need-returns-3
-returns-3 c =
-    let start = c .before .before .before .before .before .before .before .before .before .before .before .before in
-    let find = c .before .before .before .before .before .before .before .before .before .before .find in
-    let if1 = c .before .before .before .before .before .before .before .before .before .if1 in
-    let until = c .before .before .before .before .before .before .before .before .until in
-    let judge-line = c .before .before .before .before .before .before .before .judge-line in
-    let next = c .before .before .before .before .before .next in
-    let until2 = c .before .before .before .until2 in
-    let keep-line = c .keep-line in
-    let t = now (start .args .t) in
-    let h : find .result < length t = omega (arith, find .ensures .high, if1 .left) in
-    line-kept t (start .args .rooms) (start .args .state) (now (start .args .vertices)) (now (start .args .elements)) (start .pre) (find .result) _ _ _ (find .ensures) h
-    (rw (← until .ensures) (sym (judge-line .ensures) ∙ next .given .1)) (rw (until2 .ensures) at (keep-line .ensures)) (keep-line .kept .1 .1 .0) (keep-line .kept .1 .1 .1 .0)
+returns-2 c = rw (c .after .ensures, c .before .role-of .ensures) (c .before .before .before .quick-line .ensures .done (c .before .before .if1 .left))
 
 pub read-line-spec : {M : Type 1} → statement M
 read-line-spec =
     tie.close
     (tie.spec
-    find-requires
-    open-line-requires
+    mark-of-requires
+    quick-line-requires
+    judged-line-requires
     returns
-    until-requires
-    judge-line-requires
-    enum-known-fault
-    enum-known-next
-    until-requires-2
-    keep-line-requires
-    add-t21
-    returns-2
-    returns-3)
+    role-of-requires
+    after-requires
+    returns-2)
