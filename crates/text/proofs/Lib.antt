@@ -5,6 +5,11 @@ pub mod FieldLaws
 pub mod LineLaws
 pub mod FileLaws
 pub mod RecordLaws
+pub mod CopyLaws
+pub mod KeptLaws
+pub mod QuickNumbers
+pub mod QuickFields
+pub mod QuickLines
 pub mod ReadLaws
 pub mod AcceptedLaws
 pub mod Theorems

@@ -1,50 +1,52 @@
--- Reading as a whole: what judging and storing leave meets the contract.
+-- Reading as a whole: what the lines left in the reader's own tables, copied, meets the contract.
 -- Assumes nothing.
-use Prim.Native.Nat.{ℕ, _≤_, zero-le}
+use Prim.Native.Nat.{ℕ, _*_, _≤_, zero-le}
 use native.Mathlib.Omega.{arith}
-use mathlib.Core.Path.{_≡_, refl, ap, _∙_}
+use mathlib.Core.Path.{_≡_, sym, ap, _∙_}
 use mathlib.Core.List.{List, [], _∷_}
-use lib.ListN.{length}
+use lib.ListN.{length, take}
 use lib.IntN.{ℤ}
 use Rattle.laws.specs.Lent.{laid}
-use Rattle.laws.specs.Pieces.{split}
-use Rattle.faults.specs.Refusals.{Verdict, accepted, refused, answerOf}
-use Rattle.faults.specs.declared.Fault.the-variants as fault
-use Rattle.text.specs.Constants.{fileLimit}
-use Rattle.text.specs.File.{start, linesOf, fileVerdict}
-use Rattle.text.specs.Records.{vertexRecords, elementRecords, recordsFrom, ofAccepted, storedVertices, storedElements, verdictOf, roomsOf, ReadDone}
+use Rattle.faults.specs.Refusals.{answerOf}
+use Rattle.text.specs.Constants.{vertexLimit, elementLimit, vertexWidth, elementWidth}
+use Rattle.text.specs.File.{fileVerdict}
+use Rattle.text.specs.Records.{storedVertices, storedElements, verdictOf, roomsOf, ReadDone}
 use Rattle.text.specs.declared.ReadAnswer.{ReadAnswer}
-use Rattle.text.specs.Loops.{StoredFile}
+use Rattle.text.specs.declared.ReadAnswer.the-variants.{Done, Refused}
+use Rattle.text.specs.Loops.{countsIn, FileRead}
 use Rattle.text.proofs.AcceptedLaws.{file-fits}
-use Rattle.text.proofs.RecordLaws.{sets-laid}
+
+-- the counts of an answer are within the limits, and their records within the tables
+pub record Copyable (vertices : List ℤ) (elements : List ℕ) (r : ReadAnswer) : Type 0 where
+  pub vertexLimited : vertexWidth * countsIn r .vertices ≤ vertexWidth * vertexLimit
+  pub elementLimited : elementWidth * countsIn r .elements ≤ elementWidth * elementLimit
+  pub vertexRoom : vertexWidth * countsIn r .vertices ≤ length vertices
+  pub elementRoom : elementWidth * countsIn r .elements ≤ length elements
 
 module _ (file : List ℕ) (vertices : List ℤ) (elements : List ℕ) where
-  -- what is stored of a file is not too long
-  short : (v : Verdict (List ℕ)) → fileVerdict (roomsOf vertices elements) file ≡ v → length (ofAccepted v file) ≤ fileLimit
-  short (accepted cs) e = file-fits (roomsOf vertices elements) file cs e .short
-  short (refused r) e = zero-le
+  pub copyable : (r : ReadAnswer) → verdictOf r ≡ fileVerdict (roomsOf vertices elements) file → Copyable vertices elements r
+  unfolding verdictOf
+  copyable (Done counts) judged =
+      let f = file-fits (roomsOf vertices elements) file (counts .vertices ∷ counts .elements ∷ []) (sym judged) in
+      let c = f .counts in
+      let p : counts .vertices ≡ f .final .vertices = cc in
+      let q : counts .elements ≡ f .final .elements = cc in
+      record {
+        vertexLimited = omega (arith, p, f .kept .vertices);
+        elementLimited = omega (arith, q, f .kept .elements);
+        vertexRoom = rw p (f .kept .vertexRoom);
+        elementRoom = rw q (f .kept .elementRoom);
+      }
+  copyable (Refused s) judged = record { vertexLimited = omega arith; elementLimited = omega arith; vertexRoom = zero-le; elementRoom = zero-le }
 
-  module _ (vertices′ : List ℤ) (elements′ : List ℕ) where
-    -- storing what is to be stored leaves the records of the file
-    left : (v : Verdict (List ℕ)) → fileVerdict (roomsOf vertices elements) file ≡ v
-        → StoredFile (ofAccepted v file) vertices elements vertices′ elements′
-        → (vertices′ ≡ laid (ofAccepted v (recordsFrom vertexRecords start (linesOf file))) vertices)
-        × (elements′ ≡ laid (ofAccepted v (recordsFrom elementRecords start (linesOf file))) elements)
-    unfolding split recordsFrom laid
-    left (accepted cs) e s =
-        let f = file-fits (roomsOf vertices elements) file cs e in (
-          s .vertexTable ∙ sets-laid (recordsFrom vertexRecords start (linesOf file)) vertices (omega (arith, f .vertices, f .kept .vertexRoom)),
-          s .elementTable ∙ sets-laid (recordsFrom elementRecords start (linesOf file)) elements (omega (arith, f .elements, f .kept .elementRoom)),
-        )
-    left (refused r) e s = (s .vertexTable, s .elementTable)
-
-  module _ (r : ReadAnswer) (judged : verdictOf r ≡ fileVerdict (roomsOf vertices elements) file) where
-    pub stored-short : length (ofAccepted (verdictOf r) file) ≤ fileLimit
-    stored-short = rw judged (short (fileVerdict (roomsOf vertices elements) file) refl)
-
-    pub read-done : (vertices′ : List ℤ) (elements′ : List ℕ) → StoredFile (ofAccepted (verdictOf r) file) vertices elements vertices′ elements′
-        → ReadDone file vertices elements r vertices′ elements′
-    unfolding storedVertices storedElements
-    read-done vertices′ elements′ s =
-        let q = left vertices′ elements′ (fileVerdict (roomsOf vertices elements) file) refl (rw judged at s) in
-        record { answer = ap (answerOf (0 ∷ 0 ∷ [])) judged; vertexTable = q .0; elementTable = q .1 }
+  pub read-done : (r : ReadAnswer) (kept : List ℤ) (kept′ : List ℕ) (vertices′ : List ℤ) (elements′ : List ℕ)
+      → FileRead file (roomsOf vertices elements) r kept kept′
+      → vertices′ ≡ laid (take (vertexWidth * countsIn r .vertices) kept) vertices
+      → elements′ ≡ laid (take (elementWidth * countsIn r .elements) kept′) elements
+      → ReadDone file vertices elements r vertices′ elements′
+  unfolding storedVertices storedElements
+  read-done r kept kept′ vertices′ elements′ f v e = record {
+    answer = ap (answerOf (0 ∷ 0 ∷ [])) (f .answer);
+    vertexTable = v ∙ rw (← f .vertexTable, f .answer);
+    elementTable = e ∙ rw (← f .elementTable, f .answer);
+  }

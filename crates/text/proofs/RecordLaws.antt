@@ -1,17 +1,15 @@
 -- Laws of records: the records of a line stand after those of the lines before it.
 -- Each law is stated once, over the records of a table and where they begin, and holds of both tables.
 -- Assumes nothing.
-use Prim.Native.Nat.{ℕ, suc, _+_, _*_, _≤_, _<_}
-use native.Mathlib.Nat.{zero-add, add-zero, add-suc, suc-add}
+use Prim.Native.Nat.{ℕ, _+_, _*_, _≤_}
 use native.Mathlib.Omega.{arith}
-use mathlib.Core.Path.{_≡_, refl, _∙_}
+use mathlib.Core.Path.{_≡_, refl, sym, _∙_}
 use mathlib.Core.Bool.{Bool, true, false}
-use mathlib.Core.List.{List, [], _∷_, _++_, map}
-use lib.ListN.{length, take, drop, getD}
+use mathlib.Core.List.{List, [], _∷_, _++_, map, append-assoc}
+use lib.ListN.{length, take, getD}
 use lib.Seq.{sets}
-use Rattle.laws.specs.Pieces.{split, FirstAt}
-use Rattle.laws.specs.Lent.{laid}
-use Rattle.laws.proofs.LentLaws.{placed-sets, placed-laid}
+use Rattle.laws.specs.Pieces.{piece, split}
+use Rattle.laws.proofs.LentLaws.{placed-sets, take-placed}
 use Rattle.text.specs.Constants.{lineEnd, vertexWidth, elementWidth, cornerWidth}
 use Rattle.text.specs.Number.{thousandthsOf}
 use Rattle.text.specs.Line.{markOf, roleOf, fieldsOf, numbersOf, afterRole, after}
@@ -20,16 +18,6 @@ use Rattle.text.specs.declared.terms.Role.{Role}
 use Rattle.text.specs.declared.terms.Role.the-variants.{VertexLine, ElementLine, EndLine, UnknownLine}
 use Rattle.text.specs.declared.terms.ReaderState.{ReaderState}
 use Rattle.text.proofs.FieldLaws.{length-first}
-
--- ---- stores in a row
-
-pub sets-append : {A : Type 0} (a b l : List A) (i : ℕ) → sets l i (a ++ b) ≡ sets (sets l i a) (i + length a) b
-sets-append [] b l i = rw add-zero
-sets-append (x ∷ a) b l i = sets-append a b _ (suc i) ∙ rw (suc-add, ← add-suc)
-
--- records that fit, stored from the front, are laid there
-pub sets-laid : {A : Type 0} (records old : List A) → length records ≤ length old → sets old 0 records ≡ laid records old
-sets-laid records old h = placed-sets old 0 records (rw zero-add h) ∙ placed-laid old records
 
 -- ---- where the records of a table begin
 
@@ -70,31 +58,29 @@ pub element-grows : (state : ReaderState) (l : List ℕ)
 unfolding after
 element-grows state l = element-role state (roleOf (markOf l)) l
 
--- ---- the records of a table
+-- ---- a line's records kept after those before it
 
-module _
-    {A : Type 0}
-    (records : ReaderState → Role → List ℕ → List A)
-    (place : ReaderState → ℕ)
-    (grows : (state : ReaderState) (l : List ℕ) → place (after state l) ≡ place state + length (records state (roleOf (markOf l)) l))
-  where
-    pub records-none : (state : ReaderState) (t : List ℕ) → length t ≤ 0 → recordsFrom records state (split lineEnd t) ≡ []
-    unfolding recordsFrom split
-    records-none state [] h = refl
-    records-none state (x ∷ t) h = absurd (omega arith)
+module _ {A : Type 0} where
+  -- the front of a table in which records were stored
+  pub kept-front : (old new records : List A) (at next : ℕ) → new ≡ sets old at records → next ≡ at + length records → next ≤ length old
+      → take next new ≡ take at old ++ records
+  kept-front old new records at next e q h =
+      let j : at + length records ≤ length old = omega arith in
+      rw (q, e, placed-sets old at records j) (take-placed old at records j)
 
-    module _ (state : ReaderState) (t : List ℕ) (r : ℕ) (k : FirstAt lineEnd t r) where
-      pub records-last : length t ≤ r → recordsFrom records state (split lineEnd t) ≡ []
-      unfolding recordsFrom
-      records-last e = rw (k .miss e)
+  -- nothing is left to add
+  pub records-none : (records : ReaderState → Role → List ℕ → List A) (state : ReaderState) (t : List ℕ) → length t ≤ 0
+      → recordsFrom records state (split lineEnd t) ≡ []
+  unfolding recordsFrom split
+  records-none records state [] h = refl
+  records-none records state (x ∷ t) h = absurd (omega arith)
 
-      -- a line's records are stored; then those of the lines behind it, in the state after it
-      pub records-line : r < length t → (old new : List A) (next : ReaderState)
-          → new ≡ sets old (place state) (records state (roleOf (markOf (take r t))) (take r t)) → next ≡ after state (take r t)
-          → sets old (place state) (recordsFrom records state (split lineEnd t))
-          ≡ sets new (place next) (recordsFrom records next (split lineEnd (drop (r + 1) t)))
-      unfolding recordsFrom
-      records-line h old new next e q =
-          rw (k .hit h)
-          (sets-append (records state (roleOf (markOf (take r t))) (take r t)) _ old (place state)
-          ∙ rw (← grows state (take r t), ← e, ← q))
+  -- what was kept before a line and its own record, then those of the lines behind it, in the state after it
+  pub records-line : (records : ReaderState → Role → List ℕ → List A) (whole front front′ : List A) (state next : ReaderState) (t u l : List ℕ)
+      → split lineEnd t ≡ piece l (split lineEnd u) → next ≡ after state l
+      → front′ ≡ front ++ records state (roleOf (markOf l)) l
+      → whole ≡ front ++ recordsFrom records state (split lineEnd t)
+      → whole ≡ front′ ++ recordsFrom records next (split lineEnd u)
+  unfolding recordsFrom
+  records-line records whole front front′ state next t u l c q e w =
+      w ∙ rw (c, e, q) (sym (append-assoc front (records state (roleOf (markOf l)) l) (recordsFrom records (after state l) (split lineEnd u))))

@@ -5,3 +5,4 @@ pub mod Line
 pub mod File
 pub mod Records
 pub mod Loops
+pub mod QuickLoops

@@ -36,3 +36,9 @@ pub const CORNER_WIDTH: usize = 8;
 pub const MARK_WIDTH: usize = 2;
 
 pub const FIELDS_AT: usize = 3;
+
+// How many numbers 4,096 vertices are.
+pub const VERTEX_NUMBERS: usize = 12288;
+
+// How many numbers 1,024 elements are.
+pub const ELEMENT_NUMBERS: usize = 9216;

@@ -1,22 +1,31 @@
-// The verdict on a whole file: its lines in order, threading the reader's state.
+// The verdict on a whole file: its lines in order, each judged and kept, threading the reader's state.
 use crate::ReadAnswer;
 use crate::ReadCounts;
+use crate::constants::ELEMENT_NUMBERS;
 use crate::constants::FILE_LIMIT;
 use crate::constants::LINE_END;
+use crate::constants::VERTEX_NUMBERS;
+use crate::line::after;
 use crate::line::judge_line;
 use crate::line::open_line;
+use crate::mark::mark_of;
+use crate::mark::role_of;
+use crate::quick::quick_line;
 use crate::scan::find;
-use crate::scan::past;
+use crate::scan::from;
 use crate::scan::until;
+use crate::store::keep_line;
 use crate::terms::Line;
 use crate::terms::ReaderState;
 use crate::terms::Rooms;
+use crate::terms::Step;
 use faults::Fault;
 use faults::Refusal;
 ghost use mathlib.Core.Path.{_≡_};
 ghost use Rattle.faults.specs.Refusals.{refused, refuse};
-ghost use Rattle.text.specs.File.{atEnd, fileVerdict};
+ghost use Rattle.text.specs.File.{atEnd};
 ghost use Rattle.text.specs.Records.{verdictOf};
+ghost use Rattle.text.specs.Loops.{Ready, Own, LineRead, FileRead};
 
 // A fault with the place that it names.
 fn refused(fault: Fault, place: usize) -> ReadAnswer
@@ -42,9 +51,58 @@ fn at_end(state: ReaderState, n: usize) -> ReadAnswer
     refused(Fault::End, n)
 }
 
-// The verdict on a file for lent tables of that room.
-pub fn judge(file: &[u8], rooms: Rooms) -> ReadAnswer
-    ensures { λ r. ⌜ verdictOf r ≡ fileVerdict rooms (now (file .entry)) ⌝ }
+// The line at the front of a text, judged test by test; its record is kept where it is accepted.
+fn judged_line(
+    t: &[u8],
+    rooms: Rooms,
+    state: ReaderState,
+    vertices: &mut [i32; VERTEX_NUMBERS],
+    elements: &mut [u16; ELEMENT_NUMBERS],
+) -> Step
+    requires { ⌜ Ready (now t) state (now vertices) (now elements) ⌝ }
+    ensures { λ r. ⌜ LineRead (now (t .entry)) rooms state (now (vertices .entry)) (now (elements .entry)) r (now (vertices .exit)) (now (elements .exit)) ⌝ }
+{
+    let r = find(t, LINE_END);
+    if r == t.len() {
+        return Step::No(open_line(state));
+    }
+    match judge_line(until(t, r), rooms, state) {
+        Line::No(fault) => Step::No(fault),
+        Line::Next(next) => {
+            keep_line(until(t, r), state, vertices, elements);
+            Step::Next(next, r + 1)
+        }
+    }
+}
+
+// The line at the front of a text: read quickly where it is beyond question, else judged.
+fn read_line(
+    t: &[u8],
+    rooms: Rooms,
+    state: ReaderState,
+    vertices: &mut [i32; VERTEX_NUMBERS],
+    elements: &mut [u16; ELEMENT_NUMBERS],
+) -> Step
+    requires { ⌜ Ready (now t) state (now vertices) (now elements) ⌝ }
+    ensures { λ r. ⌜ LineRead (now (t .entry)) rooms state (now (vertices .entry)) (now (elements .entry)) r (now (vertices .exit)) (now (elements .exit)) ⌝ }
+{
+    let mark = mark_of(t);
+    let n = quick_line(t, mark, rooms, state, vertices, elements);
+    if n == 0 {
+        return judged_line(t, rooms, state, vertices, elements);
+    }
+    Step::Next(after(state, role_of(mark)), n)
+}
+
+// The verdict on a file for lent tables of that room; the records of an accepted one are kept from the front of both tables.
+pub fn read_lines(
+    file: &[u8],
+    rooms: Rooms,
+    vertices: &mut [i32; VERTEX_NUMBERS],
+    elements: &mut [u16; ELEMENT_NUMBERS],
+) -> ReadAnswer
+    requires { ⌜ Own (now vertices) (now elements) ⌝ }
+    ensures { λ r. ⌜ FileRead (now (file .entry)) rooms r (now (vertices .exit)) (now (elements .exit)) ⌝ }
 {
     if file.len() > FILE_LIMIT {
         return refused(Fault::Long, 0);
@@ -57,18 +115,14 @@ pub fn judge(file: &[u8], rooms: Rooms) -> ReadAnswer
     };
     let mut n: usize = 1;
     while 0 < t.len() {
-        let r = find(t, LINE_END);
-        if r == t.len() {
-            return refused(open_line(state), n);
-        }
-        match judge_line(until(t, r), rooms, state) {
-            Line::No(fault) => return refused(fault, n),
-            Line::Next(next) => {
+        match read_line(t, rooms, state, vertices, elements) {
+            Step::No(fault) => return refused(fault, n),
+            Step::Next(next, taken) => {
                 state = next;
+                let u = from(t, taken);
+                t = u;
             }
         }
-        let u = past(t, r);
-        t = u;
         n += 1;
     }
     at_end(state, n)

@@ -5,6 +5,7 @@ mod file;
 mod line;
 mod mark;
 mod number;
+mod quick;
 mod scan;
 mod store;
 pub mod terms;
@@ -32,7 +33,13 @@ pub fn read_mesh(file: &[u8], vertices: &mut [i32], elements: &mut [u16]) -> Rea
         vertices: vertices.len(),
         elements: elements.len(),
     };
-    let answer = file::judge(file, rooms);
-    store::store_records(store::to_store(file, answer), vertices, elements);
+    let mut kept_vertices = [0i32; constants::VERTEX_NUMBERS];
+    let mut kept_elements = [0u16; constants::ELEMENT_NUMBERS];
+    let answer = file::read_lines(file, rooms, &mut kept_vertices, &mut kept_elements);
+    let counts = store::counts_of(answer);
+    let n = constants::VERTEX_WIDTH * counts.vertices;
+    let m = constants::ELEMENT_WIDTH * counts.elements;
+    store::copy_coordinates(&kept_vertices, n, vertices);
+    store::copy_numbers(&kept_elements, m, elements);
     answer
 }

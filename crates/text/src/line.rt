@@ -25,7 +25,7 @@ ghost use Rattle.text.specs.Line.{badMark, tooMany, noRoom, badCounts, a
 ghost use Rattle.text.specs.Loops.{Few, openFault};
 
 // Whether the mark is unknown, or VX after an element.
-fn bad_mark(state: ReaderState, role: Role) -> bool
+pub fn bad_mark(state: ReaderState, role: Role) -> bool
     ensures { λ r. ⌜ r ≡ badMark state role ⌝ }
 {
     match role {
@@ -37,7 +37,7 @@ fn bad_mark(state: ReaderState, role: Role) -> bool
 }
 
 // Whether the line is a VX or element line beyond its limit.
-fn too_many(state: ReaderState, role: Role) -> bool
+pub fn too_many(state: ReaderState, role: Role) -> bool
     ensures { λ r. ⌜ r ≡ tooMany state role ⌝ }
 {
     match role {
@@ -49,7 +49,7 @@ fn too_many(state: ReaderState, role: Role) -> bool
 }
 
 // Whether the lent table is too short for the line's record.
-fn no_room(rooms: Rooms, state: ReaderState, role: Role) -> bool
+pub fn no_room(rooms: Rooms, state: ReaderState, role: Role) -> bool
     requires { ⌜ Few state ⌝ }
     ensures { λ r. ⌜ r ≡ noRoom rooms state role ⌝ }
 {

@@ -24,7 +24,7 @@ ghost use Rattle.text.specs.Number.{appended, decimals, millimetres, uns
 ghost use Rattle.text.specs.Loops.{DigitsRead, WholeRead, NumberRead};
 
 // n with the digit x written after it.
-fn appended(n: u32, x: u8) -> Spelt
+pub fn appended(n: u32, x: u8) -> Spelt
     requires { ⌜ n < 10 ^ 6 ⌝ }
     ensures { λ r. ⌜ r ≡ appended n x ⌝ }
 {

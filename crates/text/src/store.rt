@@ -1,12 +1,13 @@
-// The records of the lines, stored in the two lent tables, each in the state before its line.
+// The records of the lines, kept in two tables of the reader's own, each in the state before its line, and copied into the lent ones.
 use crate::ReadAnswer;
+use crate::ReadCounts;
+use crate::constants::ELEMENT_NUMBERS;
 use crate::constants::ELEMENT_WIDTH;
 use crate::constants::FIELDS_AT;
-use crate::constants::LINE_END;
 use crate::constants::SPACE;
+use crate::constants::VERTEX_NUMBERS;
 use crate::constants::VERTEX_WIDTH;
 use crate::field::numbers;
-use crate::line::after;
 use crate::mark::mark_of;
 use crate::mark::role_of;
 use crate::mark::tip_first;
@@ -20,13 +21,14 @@ use crate::terms::Mark;
 use crate::terms::ReaderState;
 use crate::terms::Role;
 ghost use mathlib.Core.Path.{_≡_};
-ghost use Prim.Native.Nat.{_+_, _*_, _^_, _≤_, _<_};
-ghost use lib.ListN.{length, set};
+ghost use Prim.Native.Nat.{_+_, _*_, _^_, _<_};
+ghost use lib.ListN.{take, set};
 ghost use lib.Seq.{sets};
+ghost use Rattle.laws.specs.Lent.{laid};
 ghost use Rattle.laws.specs.Pieces.{split};
-ghost use Rattle.text.specs.Constants.{space, fileLimit, vertexWidth, elementWidth};
-ghost use Rattle.text.specs.Records.{vertexRecord, elementRecord, vertexRecords, elementRecords, ofAccepted, verdictOf};
-ghost use Rattle.text.specs.Loops.{Few, StoredLine, StoredFile};
+ghost use Rattle.text.specs.Constants.{space, vertexLimit, elementLimit, vertexWidth, elementWidth};
+ghost use Rattle.text.specs.Records.{vertexRecord, elementRecord, vertexRecords, elementRecords};
+ghost use Rattle.text.specs.Loops.{Few, StoredLine, Copying, countsIn};
 
 // A coordinate at place i of a table, which is left alone where it has no such place.
 fn put_coordinate(table: &mut [i32], i: usize, v: i32)
@@ -116,51 +118,49 @@ fn store_element(l: &[u8], role: Role, state: ReaderState, table: &mut [u16])
     }
 }
 
-// The records of a line, each after those of the lines before it; the state after the line.
-fn store_line(
-    l: &[u8],
-    state: ReaderState,
-    vertices: &mut [i32],
-    elements: &mut [u16],
-) -> ReaderState
+// The record of a line, after those of the lines before it.
+pub fn keep_line(l: &[u8], state: ReaderState, vertices: &mut [i32], elements: &mut [u16])
     requires { ⌜ Few state ⌝ }
-    ensures { λ r. ⌜ StoredLine (now (l .entry)) state (now (vertices .entry)) (now (elements .entry)) r (now (vertices .exit)) (now (elements .exit)) ⌝ }
+    ensures { λ _. ⌜ StoredLine (now (l .entry)) state (now (vertices .entry)) (now (elements .entry)) (now (vertices .exit)) (now (elements .exit)) ⌝ }
 {
     let role = role_of(mark_of(l));
     store_vertex(l, role, state, vertices);
     store_element(l, role, state, elements);
-    after(state, role)
 }
 
-// What of a file is stored: all of an accepted one, nothing of a refused one.
-pub fn to_store(file: &[u8], answer: ReadAnswer) -> &[u8]
-    ensures { λ r. ⌜ now r ≡ ofAccepted (verdictOf answer) (now (file .entry)) ⌝ }
+// How many vertices and elements an answer gives, none where it is a refusal.
+pub fn counts_of(answer: ReadAnswer) -> ReadCounts
+    ensures { λ r. ⌜ r ≡ countsIn answer ⌝ }
 {
     match answer {
-        ReadAnswer::Done(_) => file,
-        ReadAnswer::Refused(_) => until(file, 0),
+        ReadAnswer::Done(counts) => counts,
+        ReadAnswer::Refused(_) => ReadCounts {
+            vertices: 0,
+            elements: 0,
+        },
     }
 }
 
-// The records of a file, from the front of both tables.
-pub fn store_records(file: &[u8], vertices: &mut [i32], elements: &mut [u16])
-    requires { ⌜ length (now file) ≤ fileLimit ⌝ }
-    ensures { λ _. ⌜ StoredFile (now (file .entry)) (now (vertices .entry)) (now (elements .entry)) (now (vertices .exit)) (now (elements .exit)) ⌝ }
+// The first n coordinates that were kept, into a lent table.
+pub fn copy_coordinates(kept: &[i32; VERTEX_NUMBERS], n: usize, table: &mut [i32])
+    requires { ⌜ Copying (vertexWidth * vertexLimit) (now kept) n (now table) ⌝ }
+    ensures { λ _. ⌜ now (table .exit) ≡ laid (take n (now (kept .entry))) (now (table .entry)) ⌝ }
 {
-    let mut t = file;
-    let mut state = ReaderState {
-        vertices: 0,
-        elements: 0,
-        ended: false,
-    };
-    while 0 < t.len() {
-        let r = find(t, LINE_END);
-        if r == t.len() {
-            return;
-        }
-        let next = store_line(until(t, r), state, vertices, elements);
-        state = next;
-        let u = past(t, r);
-        t = u;
+    let mut i = 0;
+    while i < n {
+        table[i] = kept[i];
+        i += 1;
+    }
+}
+
+// The first n numbers of elements that were kept, into a lent table.
+pub fn copy_numbers(kept: &[u16; ELEMENT_NUMBERS], n: usize, table: &mut [u16])
+    requires { ⌜ Copying (elementWidth * elementLimit) (now kept) n (now table) ⌝ }
+    ensures { λ _. ⌜ now (table .exit) ≡ laid (take n (now (kept .entry))) (now (table .entry)) ⌝ }
+{
+    let mut i = 0;
+    while i < n {
+        table[i] = kept[i];
+        i += 1;
     }
 }

@@ -57,3 +57,9 @@ pub enum Line {
     Next(ReaderState),
     No(Fault),
 }
+
+// What the line at the front of a text comes to: the state after it and how many bytes it takes with its byte 10, or its fault.
+pub enum Step {
+    Next(ReaderState, usize),
+    No(Fault),
+}

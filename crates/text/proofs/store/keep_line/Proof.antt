@@ -1,8 +1,7 @@
--- `text::store::store_line` stores the records of a line. Assumes nothing.
-use Rattle.text.specs.Line.{after}
+-- `text::store::keep_line` stores the records of a line. Assumes nothing.
 use borrow.Author.Needs.{needs}
-use Rattle.text.proofs.store.store_line.Statement.{statement}
-use Rattle.text.proofs.store.store_line.Tie as tie
+use Rattle.text.proofs.store.keep_line.Statement.{statement}
+use Rattle.text.proofs.store.keep_line.Tie as tie
 
 mark-of-requires : tie.Need-mark-of-requires
 mark-of-requires c κs = search needs
@@ -16,9 +15,6 @@ store-vertex-requires c κs = search needs
 store-element-requires : tie.Need-store-element-requires
 store-element-requires c κs = search needs
 
-after-requires : tie.Need-after-requires
-after-requires c κs = search needs
-
 same-length : tie.Need-same-length
 same-length c = search needs
 
@@ -26,27 +22,24 @@ same-length-2 : tie.Need-same-length-2
 same-length-2 c = search needs
 
 returns : tie.Need-returns
-unfolding after
 returns c =
-    let mark-of = c .before .before .before .before .before .before .before .before .before .mark-of in
-    let role-of = c .before .before .before .before .before .before .before .before .role-of in
-    let store-vertex = c .before .before .before .before .before .before .store-vertex in
-    let store-element = c .before .before .before .store-element in
+    let mark-of = c .before .before .before .before .before .before .before .before .mark-of in
+    let role-of = c .before .before .before .before .before .before .before .role-of in
+    let store-vertex = c .before .before .before .before .before .store-vertex in
+    let store-element = c .before .before .store-element in
     record {
       vertexTable = rw (← mark-of .ensures, ← role-of .ensures) (store-vertex .ensures);
       elementTable = rw (← mark-of .ensures, ← role-of .ensures) (store-element .ensures);
-      same = rw (← mark-of .ensures, ← role-of .ensures) (c .after .ensures);
     }
 
-pub store-line-spec : {M : Type 1} → statement M
-store-line-spec =
+pub keep-line-spec : {M : Type 1} → statement M
+keep-line-spec =
     tie.close
     (tie.spec
     mark-of-requires
     role-of-requires
     store-vertex-requires
     store-element-requires
-    after-requires
     same-length
     same-length-2
     returns)

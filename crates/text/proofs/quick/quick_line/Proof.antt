@@ -1,0 +1,108 @@
+-- `text::quick::quick_line` takes a line beyond question, and declines any other. Assumes nothing.
+use mathlib.Core.Path.{sym, _∙_}
+use Rattle.text.proofs.QuickLines.{allowed, line-declined, vertex-room, vertex-quick, element-room, element-quick}
+use borrow.Author.Needs.{needs}
+use Rattle.text.proofs.quick.quick_line.Statement.{statement}
+use Rattle.text.proofs.quick.quick_line.Tie as tie
+
+returns : tie.Need-returns
+returns c = line-declined _ _ _ _ _ _ (c .before .before .pre .1 .own)
+
+byte-at-requires : tie.Need-byte-at-requires
+byte-at-requires c κs = search needs
+
+returns-2 : tie.Need-returns-2
+returns-2 c = line-declined _ _ _ _ _ _ (c .before .before .before .before .pre .1 .own)
+
+role-of-requires : tie.Need-role-of-requires
+role-of-requires c κs = search needs
+
+bad-mark-requires : tie.Need-bad-mark-requires
+bad-mark-requires c κs = search needs
+
+returns-3 : tie.Need-returns-3
+returns-3 c = line-declined _ _ _ _ _ _ (c .before .before .before .before .before .before .before .pre .1 .own)
+
+too-many-requires : tie.Need-too-many-requires
+too-many-requires c κs = search needs
+
+returns-4 : tie.Need-returns-4
+returns-4 c = line-declined _ _ _ _ _ _ (c .before .before .before .before .before .before .before .before .before .pre .1 .own)
+
+no-room-requires : tie.Need-no-room-requires
+no-room-requires c κs = search needs
+
+returns-5 : tie.Need-returns-5
+returns-5 c = line-declined _ _ _ _ _ _ (c .before .before .before .before .before .before .before .before .before .before .before .pre .1 .own)
+
+enum-told : tie.Need-enum-told
+enum-told c = search needs
+
+quick-coordinates-requires : tie.Need-quick-coordinates-requires
+quick-coordinates-requires c κs =
+    let a = allowed _ _ _ _ _ _ (c .before .enum-told .given .1) (sym (c .before .before .before .before .before .before .before .before .bad-mark .ensures) ∙ c .before .before .before .before .before .before .before .if3 .left)
+    (sym (c .before .before .before .before .before .before .too-many .ensures) ∙ c .before .before .before .before .before .if4 .left) (sym (c .before .before .before .before .no-room .ensures) ∙ c .before .before .before .if5 .left) (c .before .before .before .before .before .before .before .before .before .before .before .before .if1 .left)
+    (sym (c .before .before .before .before .before .before .before .before .before .before .before .byte-at .ensures) ∙ c .before .before .before .before .before .before .before .before .before .before .if2 .left) (c .before .before .before .before .before .before .before .before .before .before .before .before .before .before .pre .0) (c .before .before .before .before .before .before .before .before .before .role-of .ensures) in
+    vertex-room _ _ _ _ _ _ (c .before .before .before .before .before .before .before .before .before .before .before .before .before .before .pre .1 .own) a
+
+enum-told-2 : tie.Need-enum-told-2
+enum-told-2 c = search needs
+
+quick-element-requires : tie.Need-quick-element-requires
+quick-element-requires c κs =
+    let a = allowed _ _ _ _ _ _ (c .before .enum-told2 .given .1) (sym (c .before .before .before .before .before .before .before .before .bad-mark .ensures) ∙ c .before .before .before .before .before .before .before .if3 .left)
+    (sym (c .before .before .before .before .before .before .too-many .ensures) ∙ c .before .before .before .before .before .if4 .left) (sym (c .before .before .before .before .no-room .ensures) ∙ c .before .before .before .if5 .left) (c .before .before .before .before .before .before .before .before .before .before .before .before .if1 .left)
+    (sym (c .before .before .before .before .before .before .before .before .before .before .before .byte-at .ensures) ∙ c .before .before .before .before .before .before .before .before .before .before .if2 .left) (c .before .before .before .before .before .before .before .before .before .before .before .before .before .before .pre .0) (c .before .before .before .before .before .before .before .before .before .role-of .ensures) in
+    element-room _ _ _ _ _ _ (c .before .before .before .before .before .before .before .before .before .before .before .before .before .before .pre .1 .own) a
+
+enum-told-3 : tie.Need-enum-told-3
+enum-told-3 c = search needs
+
+enum-told-4 : tie.Need-enum-told-4
+enum-told-4 c = search needs
+
+returns-6 : tie.Need-returns-6
+returns-6 c =
+    let a = allowed _ _ _ _ _ _ (c .before .before .enum-told .given .1) (sym (c .before .before .before .before .before .before .before .before .before .bad-mark .ensures) ∙ c .before .before .before .before .before .before .before .before .if3 .left)
+    (sym (c .before .before .before .before .before .before .before .too-many .ensures) ∙ c .before .before .before .before .before .before .if4 .left) (sym (c .before .before .before .before .before .no-room .ensures) ∙ c .before .before .before .before .if5 .left) (c .before .before .before .before .before .before .before .before .before .before .before .before .before .if1 .left)
+    (sym (c .before .before .before .before .before .before .before .before .before .before .before .before .byte-at .ensures) ∙ c .before .before .before .before .before .before .before .before .before .before .before .if2 .left) (c .before .before .before .before .before .before .before .before .before .before .before .before .before .before .before .pre .0) (c .before .before .before .before .before .before .before .before .before .before .role-of .ensures) in
+    vertex-quick _ _ _ _ _ _ (c .before .before .before .before .before .before .before .before .before .before .before .before .before .before .before .pre .1 .own) a _ _ (c .quick-coordinates .ensures)
+
+returns-7 : tie.Need-returns-7
+returns-7 c =
+    let a = allowed _ _ _ _ _ _ (c .before .before .enum-told2 .given .1) (sym (c .before .before .before .before .before .before .before .before .before .bad-mark .ensures) ∙ c .before .before .before .before .before .before .before .before .if3 .left)
+    (sym (c .before .before .before .before .before .before .before .too-many .ensures) ∙ c .before .before .before .before .before .before .if4 .left) (sym (c .before .before .before .before .before .no-room .ensures) ∙ c .before .before .before .before .if5 .left) (c .before .before .before .before .before .before .before .before .before .before .before .before .before .if1 .left)
+    (sym (c .before .before .before .before .before .before .before .before .before .before .before .before .byte-at .ensures) ∙ c .before .before .before .before .before .before .before .before .before .before .before .if2 .left) (c .before .before .before .before .before .before .before .before .before .before .before .before .before .before .before .pre .0) (c .before .before .before .before .before .before .before .before .before .before .role-of .ensures) in
+    let o = c .before .before .before .before .before .before .before .before .before .before .before .before .before .before .before .pre .1 .own in
+    element-quick _ _ _ _ _ _ o a _ _ (c .quick-element .ensures)
+
+returns-8 : tie.Need-returns-8
+returns-8 c = line-declined _ _ _ _ _ _ (c .before .before .before .before .before .before .before .before .before .before .before .before .before .pre .1 .own)
+
+returns-9 : tie.Need-returns-9
+returns-9 c = line-declined _ _ _ _ _ _ (c .before .before .before .before .before .before .before .before .before .before .before .before .before .pre .1 .own)
+
+pub quick-line-spec : {M : Type 1} → statement M
+quick-line-spec =
+    tie.close
+    (tie.spec
+    returns
+    byte-at-requires
+    returns-2
+    role-of-requires
+    bad-mark-requires
+    returns-3
+    too-many-requires
+    returns-4
+    no-room-requires
+    returns-5
+    enum-told
+    quick-coordinates-requires
+    enum-told-2
+    quick-element-requires
+    enum-told-3
+    enum-told-4
+    returns-6
+    returns-7
+    returns-8
+    returns-9)
