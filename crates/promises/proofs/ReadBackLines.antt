@@ -31,6 +31,7 @@ use Rattle.text.specs.declared.terms.Judged.the-variants.{Passed}
 use Rattle.text.specs.declared.terms.ReaderState.{ReaderState}
 use Rattle.text.specs.declared.terms.Rooms.{Rooms}
 use Rattle.text.proofs.FieldLaws.{some-bytes}
+use Rattle.text.proofs.QuickLines.{eight}
 use Rattle.promises.specs.ReadBack.{reading, ended, LineBack}
 use Rattle.promises.proofs.ReadBackNumbers.{free-append, decimal-free, decimal-some, number-back, value-back, coordinate-back, thousandths-back, coordinate-free, coordinate-some}
 
@@ -263,19 +264,6 @@ numbers-read v few (suc n) k (j ∷ l) zs e h z =
     rw (number-value v few k (and-left (isNumber v k) (every (isNumber v) (j ∷ l)) h))
     (ap (λ (m : List ℕ). k ∷ m)
     (numbers-read v few n j l zs (omega arith) (and-right (isNumber v k) (every (isNumber v) (j ∷ l)) h) z))
-
--- eight numbers, taken one by one
-eight : (l : List ℕ) → length l ≡ cornerWidth → map (λ k. getD l k 0) (cornerFields false) ≡ l
-eight [] h = absurd (omega arith)
-eight (a ∷ []) h = absurd (omega arith)
-eight (a ∷ b ∷ []) h = absurd (omega arith)
-eight (a ∷ b ∷ c ∷ []) h = absurd (omega arith)
-eight (a ∷ b ∷ c ∷ d ∷ []) h = absurd (omega arith)
-eight (a ∷ b ∷ c ∷ d ∷ e ∷ []) h = absurd (omega arith)
-eight (a ∷ b ∷ c ∷ d ∷ e ∷ f ∷ []) h = absurd (omega arith)
-eight (a ∷ b ∷ c ∷ d ∷ e ∷ f ∷ g ∷ []) h = absurd (omega arith)
-eight (a ∷ b ∷ c ∷ d ∷ e ∷ f ∷ g ∷ i ∷ []) h = refl
-eight (a ∷ b ∷ c ∷ d ∷ e ∷ f ∷ g ∷ i ∷ j ∷ l) h = absurd (omega arith)
 
 -- the mark of a kind: it is an element's, has as many fields as the kind says, and does not have the tip first
 record MarkOf (k : ℕ) (m : Mark) : Type 0 where

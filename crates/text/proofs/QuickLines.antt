@@ -136,7 +136,7 @@ numbers-all (suc n) k [] f e =
 numbers-all (suc n) k (h ∷ fs) f e = ap (λ (l : List ℕ). valueOf h ∷ l) (numbers-all n k fs f (omega arith))
 
 -- eight numbers, taken one by one
-eight : (l : List ℕ) → length l ≡ cornerWidth → map (λ k. getD l k 0) (cornerFields false) ≡ l
+pub eight : (l : List ℕ) → length l ≡ cornerWidth → map (λ k. getD l k 0) (cornerFields false) ≡ l
 eight [] h = absurd (omega arith)
 eight (a ∷ []) h = absurd (omega arith)
 eight (a ∷ b ∷ []) h = absurd (omega arith)
