@@ -14,10 +14,10 @@ use Rattle.laws.proofs.PieceLaws.{Free, split-joined, split-free}
 use Rattle.volume.specs.Volume.{inRange}
 use Rattle.volume.proofs.RangeLaws.{in-range-within}
 use Rattle.text.specs.Constants.{comma, minus, point, digit0, digit9, coordinateLimit, numberDigits}
-use Rattle.text.specs.Number.{appended, onto, spelt, whole, decimals, signed, millimetres, unsigned, coordinateOf, thousandthsOf, numberOf, valueOf}
-use Rattle.text.specs.declared.terms.Spelt.{Spelt}
-use Rattle.text.specs.declared.terms.Spelt.the-variants.{Of, Not}
+use Rattle.text.specs.Number.{appended, spelt, whole, decimals, signed, millimetres, unsigned, coordinateOf, thousandthsOf, numberOf, valueOf}
+use Rattle.text.specs.declared.terms.Spelt.the-variants.{Of}
 use Rattle.text.specs.declared.terms.Coordinate.the-variants.{Thousandths}
+use Rattle.text.proofs.QuickNumbers.{spelt-append}
 use Rattle.writing.specs.Written.{digit, digitsOf, decimal, signOf, millimetresOf, coordinateText}
 use Rattle.writing.proofs.DecimalLaws.{digits-short, tenth, decimal-digits}
 
@@ -68,16 +68,6 @@ unfolding appended
 appended-digit n d h =
     let e : digit d - digit0 ≡ d = omega arith in
     rw (le-leb digit0 (digit d) (omega arith), le-leb (digit d) digit9 (omega arith), e)
-
-spelt-append : (n : ℕ) (x y : List ℕ) → spelt n (x ++ y) ≡ onto (spelt n x) (λ m. spelt m y)
-unfolding spelt
-spelt-append n [] y = refl
-spelt-append n (a ∷ x) y = by (appended n a) (λ m. spelt-append m x y)
-  where
-    by : (s : Spelt) → ((m : ℕ) → spelt m (x ++ y) ≡ onto (spelt m x) (λ k. spelt k y))
-        → onto s (λ m. spelt m (x ++ y)) ≡ onto (onto s (λ m. spelt m x)) (λ k. spelt k y)
-    by (Of m) h = h m
-    by Not h = refl
 
 one-spelt : (n d : ℕ) → d < 10 → spelt n (digit d ∷ []) ≡ Of (n * 10 + d)
 unfolding spelt

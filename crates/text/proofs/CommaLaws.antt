@@ -14,7 +14,7 @@ use Rattle.faults.specs.Refusals.{accepted}
 use Rattle.faults.specs.declared.Fault.{Fault}
 use Rattle.faults.specs.declared.Fault.the-variants as fault
 use Rattle.text.specs.Constants.{lineEnd, space, comma, minus, point, digit0, numberDigits, markWidth}
-use Rattle.text.specs.Number.{cut, appended, onto, spelt, whole, numberOf, unsigned, coordinateOf}
+use Rattle.text.specs.Number.{cut, spelt, whole, numberOf, unsigned, coordinateOf}
 use Rattle.text.specs.Line.{markWith, markOf, roleOf, wants, fieldsOf, areFields, first, judgeCoordinate, judgeCount, judgeVertex, fieldVerdict, fieldsVerdict, badMark, badShape, after}
 use Rattle.text.specs.File.{fileVerdict}
 use Rattle.text.specs.declared.terms.Mark.{Mark}
@@ -28,6 +28,7 @@ use Rattle.text.specs.declared.terms.Judged.{Judged}
 use Rattle.text.specs.declared.terms.Judged.the-variants.{Passed, Failed}
 use Rattle.text.specs.declared.terms.ReaderState.{ReaderState}
 use Rattle.text.specs.declared.terms.Rooms.{Rooms}
+use Rattle.text.proofs.QuickNumbers.{no-number, spelt-above, above-free}
 use Rattle.text.proofs.MarkLaws.{comma-first, comma-second}
 use Rattle.text.proofs.FileLaws.{Taken, accepted-holds}
 
@@ -73,26 +74,12 @@ uncut-free b (x ∷ t) e = uncut-first b x t (uncut-free b t) (eqb x b) refl e
 
 -- ---- a field
 
-no-number : {X : Type 0} (n : ℕ) → Not ≡ Of n → X
-no-number n h = let z : _≡_ {A = ℕ} 0 1 = cc in absurd (omega arith)
-
 no-pass : {X : Type 0} (f : Fault) → Failed f ≡ Passed → X
 no-pass f h = let z : _≡_ {A = ℕ} 0 1 = cc in absurd (omega arith)
 
-comma-appended : (n x : ℕ) → x ≡ comma → appended n x ≡ Not
-unfolding appended
-comma-appended n x e = rw e
-
-digit-free : (n m x : ℕ) (l : List ℕ) → ((k : ℕ) → spelt k l ≡ Of m → Free comma l) → (a : Spelt) → appended n x ≡ a
-    → onto a (λ k. spelt k l) ≡ Of m → Free comma (x ∷ l)
-digit-free n m x l ih (Of k) e h = (λ z. no-number k (sym (comma-appended n x z) ∙ e), ih k h)
-digit-free n m x l ih Not e h = no-number m h
-
 -- digits are no comma
 spelt-free : (n m : ℕ) (l : List ℕ) → spelt n l ≡ Of m → Free comma l
-unfolding spelt
-spelt-free n m [] h = tt
-spelt-free n m (x ∷ l) h = digit-free n m x l (λ k q. spelt-free k m l q) (appended n x) refl h
+spelt-free n m l h = above-free digit0 comma l (omega arith) (spelt-above n m l h)
 
 zero-free : (l : List ℕ) → eqb (getD l 0 0) digit0 ≡ true → eqb (length l) 1 ≡ true → Free comma l
 zero-free [] e h = tt

@@ -52,7 +52,7 @@ above-free b c (x ∷ l) h f = (λ e. omega (arith, f .0), above-free b c l h (f
 
 -- ---- digits
 
-no-number : {X : Type 0} (n : ℕ) → Not ≡ Of n → X
+pub no-number : {X : Type 0} (n : ℕ) → Not ≡ Of n → X
 no-number n h = let z : _≡_ {A = ℕ} 0 1 = cc in absurd (omega arith)
 
 -- a byte that is written after a number is a digit

@@ -158,9 +158,9 @@ pub fn copy_numbers(kept: &[u16; ELEMENT_NUMBERS], n: usize, table: &mut [u16])
     requires { ⌜ Copying (elementWidth * elementLimit) (now kept) n (now table) ⌝ }
     ensures { λ _. ⌜ now (table .exit) ≡ laid (take n (now (kept .entry))) (now (table .entry)) ⌝ }
 {
-    let mut i = 0;
-    while i < n {
-        table[i] = kept[i];
-        i += 1;
+    let mut k = 0;
+    while k < n {
+        table[k] = kept[k];
+        k += 1;
     }
 }

@@ -1,4 +1,4 @@
--- `text::store::copy_numbers` copies into a lent table. Invariant: the first i are copied. Assumes nothing.
+-- `text::store::copy_numbers` copies into a lent table. Invariant: the first k are copied. Assumes nothing.
 use Prim.Native.Nat.{_-_}
 use native.Mathlib.Omega.{arith}
 use borrow.Author.Needs.{needs}
@@ -7,10 +7,10 @@ use Rattle.text.proofs.store.copy_numbers.Statement.{statement}
 use Rattle.text.proofs.store.copy_numbers.Tie as tie
 
 abbrev Inv-loop : tie.InvT-loop
-Inv-loop kept n table₀ i₀ table i = Copied table₀ kept n table i
+Inv-loop kept n table₀ k₀ table k = Copied table₀ kept n table k
 
 abbrev μ-loop : tie.MeasureT-loop
-μ-loop kept n table₀ i₀ table i = n - i
+μ-loop kept n table₀ k₀ table k = n - k
 
 loop-holds : tie.Need-loop-holds Inv-loop μ-loop
 loop-holds c = copied-none _ _ _ (c .pre .long) (c .pre .room)
@@ -27,8 +27,8 @@ mul-table-2 c = record { fits = omega (arith, c .before .before .before .pre .fe
 slice-write-table : tie.Need-slice-write-table Inv-loop μ-loop
 slice-write-table c = omega (arith, c .before .before .loop .inv .size, c .before .before .loop .inv .room, c .before .loop-test .taken)
 
-add-i : tie.Need-add-i Inv-loop μ-loop
-add-i c = search needs
+add-k : tie.Need-add-k Inv-loop μ-loop
+add-k c = search needs
 
 loop-less : tie.Need-loop-less Inv-loop μ-loop
 loop-less c = search needs
@@ -53,7 +53,7 @@ copy-numbers-spec =
     element-copy-out-table
     mul-table-2
     slice-write-table
-    add-i
+    add-k
     loop-less
     loop-again
     same-length
