@@ -7,7 +7,7 @@
    Memory is lent as a pointer and a length, and a length counts numbers, not bytes. A pointer is
    never NULL and is aligned for its type, also where the length is 0; memory that is written overlaps
    no other memory of the same call. Nothing is kept after a call, so calls may run side by side.
-   brine_convert keeps its tables on the stack, about 400 KB; the others need a few KB.
+   brine_convert keeps its tables on the stack, about 450 KB, and brine_read about 70 KB; the others need about 30 KB.
 
    The answer array is written whole by every call. Its first three numbers are the refusal's number,
    which is also the value returned, its place and the second number; the entry's own numbers follow,

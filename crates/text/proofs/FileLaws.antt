@@ -14,11 +14,9 @@ use Rattle.faults.specs.declared.Fault.{Fault}
 use Rattle.faults.specs.declared.Fault.the-variants as fault
 use Rattle.faults.specs.declared.Refusal.{Refusal}
 use Rattle.text.specs.Constants.{lineEnd, fileLimit}
-use Rattle.text.specs.Line.{markOf, roleOf, wants, fieldsOf, fieldsVerdict, badMark, tooMany, badShape, noRoom, badCounts, afterRole, after, given, judged, lineVerdict}
+use Rattle.text.specs.Line.{markOf, roleOf, wants, fieldsOf, fieldsVerdict, badMark, tooMany, badShape, noRoom, badCounts, after, given, judged, lineVerdict}
 use Rattle.text.specs.File.{start, linesOf, atEnd, onward, fileFrom, fileVerdict}
 use Rattle.text.specs.Loops.{openFault}
-use Rattle.text.specs.declared.terms.Role.{Role}
-use Rattle.text.specs.declared.terms.Role.the-variants.{VertexLine, ElementLine, EndLine, UnknownLine}
 use Rattle.text.specs.declared.terms.Judged.{Judged}
 use Rattle.text.specs.declared.terms.Judged.the-variants.{Passed, Failed}
 use Rattle.text.specs.declared.terms.ReaderState.{ReaderState}
@@ -72,20 +70,6 @@ module _ (rooms : Rooms) (state : ReaderState) (l : List ℕ) (next : ReaderStat
       (badShape (wants (markOf l)) l) (fieldsVerdict state (roleOf (markOf l)) (fieldsOf l))
       (noRoom rooms state (roleOf (markOf l))) (badCounts state (roleOf (markOf l)) (fieldsOf l)) refl refl refl refl refl
 
--- a line gives at most one record
-role-few : (state : ReaderState) (role : Role)
-    → afterRole state role .vertices + afterRole state role .elements ≤ state .vertices + state .elements + 1
-unfolding afterRole
-role-few state VertexLine = omega arith
-role-few state ElementLine = omega arith
-role-few state EndLine = omega arith
-role-few state UnknownLine = omega arith
-
-pub after-few : (state : ReaderState) (l : List ℕ)
-    → after state l .vertices + after state l .elements ≤ state .vertices + state .elements + 1
-unfolding after
-after-few state l = role-few state (roleOf (markOf l))
-
 -- ---- the lines in order
 
 module _ (rooms : Rooms) (state : ReaderState) (n : ℕ) where
@@ -126,11 +110,6 @@ module _ (rooms : Rooms) (state : ReaderState) (n : ℕ) where
     pub file-no : (f : Fault) → r < length t → lineVerdict rooms state true (take r t) ≡ No f
         → fileFrom rooms state n (split lineEnd t) ≡ refused (refuse f n)
     file-no f h e = step h ∙ rw e
-
-    -- the next line
-    pub file-next : (s : ReaderState) → r < length t → lineVerdict rooms state true (take r t) ≡ Next s
-        → fileFrom rooms state n (split lineEnd t) ≡ fileFrom rooms s (n + 1) (split lineEnd (drop (r + 1) t))
-    file-next s h e = step h ∙ rw e
 
 -- ---- an accepted file, line by line
 

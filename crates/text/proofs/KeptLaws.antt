@@ -1,24 +1,23 @@
 -- The lines of a file, judged and kept one after the other: what a line leaves, and what is left after the last.
 -- Assumes nothing.
-use Prim.Native.Nat.{ℕ, _+_, _*_, _≤_, _<_, zero-le}
-use native.Mathlib.Nat.{le-of-eq}
+use Prim.Native.Nat.{ℕ, _+_, _≤_, _<_, zero-le}
 use native.Mathlib.Omega.{arith}
 use mathlib.Core.Path.{_≡_, refl, sym, ap, _∙_}
-use mathlib.Core.Bool.{Bool, true, false, cond}
+use mathlib.Core.Bool.{Bool, true, false}
 use mathlib.Core.List.{List, [], _∷_, _++_, append-nil}
 use lib.IntN.{ℤ}
 use lib.ListN.{length, take, drop, length-drop}
 use borrow.Author.Tests.{leb-false, le-ltb}
-use Rattle.laws.specs.Pieces.{Pieces, piece, split, FirstAt}
+use Rattle.laws.specs.Pieces.{split, FirstAt}
 use Rattle.faults.specs.Refusals.{accepted, refused, refuse}
 use Rattle.faults.specs.declared.Fault.{Fault}
 use Rattle.faults.specs.declared.Fault.the-variants as fault
 use Rattle.faults.specs.declared.Refusal.{Refusal}
-use Rattle.text.specs.Constants.{lineEnd, fileLimit, vertexLimit, elementLimit, vertexWidth, elementWidth}
+use Rattle.text.specs.Constants.{lineEnd, fileLimit, vertexLimit, elementLimit}
 use Rattle.text.specs.Line.{markOf, roleOf, tooMany, afterRole, after, lineVerdict}
 use Rattle.text.specs.File.{start, linesOf, atEnd, fileFrom, fileVerdict}
-use Rattle.text.specs.Records.{vertexRecords, elementRecords, recordsFrom, ofAccepted, verdictOf}
-use Rattle.text.specs.Loops.{Few, Own, Ready, StoredLine, LineTaken, LineRead, FileRead, countsIn}
+use Rattle.text.specs.Records.{vertexRecords, elementRecords, recordsFrom, verdictOf}
+use Rattle.text.specs.Loops.{Few, Own, Ready, StoredLine, LineTaken, LineRead, FileRead}
 use Rattle.text.specs.declared.ReadAnswer.{ReadAnswer}
 use Rattle.text.specs.declared.ReadAnswer.the-variants.{Done, Refused}
 use Rattle.text.specs.declared.terms.Role.{Role}

@@ -15,7 +15,7 @@ use borrow.Author.Tests.{ne-eqb, le-ltb}
 use Rattle.text.specs.Constants.{lineEnd, space, minus, digit0, fieldsAt}
 use Rattle.text.specs.Number.{thousandthsOf, valueOf}
 use Rattle.text.specs.Line.{fieldVerdict}
-use Rattle.text.specs.QuickLoops.{CoordinateAt, NumberAt, Good, Each, ended, endOf, FieldsAt, FieldsRead, Cleared}
+use Rattle.text.specs.QuickLoops.{CoordinateAt, NumberAt, Good, Each, ended, endOf, FieldsRead, Cleared}
 use Rattle.text.specs.declared.terms.Role.{Role}
 use Rattle.text.specs.declared.terms.Role.the-variants.{VertexLine, ElementLine}
 use Rattle.text.specs.declared.terms.ReaderState.{ReaderState}

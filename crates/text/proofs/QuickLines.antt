@@ -4,7 +4,7 @@ use Prim.Native.Nat.{ℕ, zero, suc, _+_, _*_, _-_, _≤_, _<_}
 use native.Mathlib.Numerals.{add-one}
 use native.Mathlib.Omega.{arith}
 use mathlib.Core.Path.{_≡_, refl, sym, ap, _∙_}
-use mathlib.Core.Bool.{Bool, true, false, true≢false}
+use mathlib.Core.Bool.{true, false, true≢false}
 use mathlib.Core.List.{List, [], _∷_, _++_, map, append-assoc, append-nil}
 use lib.IntN.{ℤ}
 use lib.ListN.{length, getD, take, drop, set, replicate, length-append, length-set, length-replicate, length-map}
@@ -14,14 +14,14 @@ use Rattle.laws.specs.Pieces.{Pieces, rest, piece, split}
 use Rattle.laws.proofs.PieceLaws.{Free, split-joined, split-free}
 use Rattle.text.specs.Constants.{lineEnd, space, minus, fieldsAt, markWidth, vertexLimit, elementLimit, vertexWidth, elementWidth, cornerWidth}
 use Rattle.text.specs.Number.{thousandthsOf, numberOf, whole, valueOf}
-use Rattle.text.specs.Line.{markWith, markOf, roleOf, wants, fieldsOf, areFields, firstOf, numbersOf, fieldVerdict, fieldsVerdict, badMark, tooMany, badShape, noRoom, badCounts, afterRole, lineVerdict}
+use Rattle.text.specs.Line.{markWith, markOf, roleOf, wants, fieldsOf, areFields, firstOf, fieldsVerdict, badMark, tooMany, badShape, noRoom, badCounts, afterRole, lineVerdict}
 use Rattle.text.specs.Records.{vertexRecord, tipFirst, cornerFields, elementRecord, vertexRecords, elementRecords}
-use Rattle.text.specs.Loops.{Own, Ready, LineTaken}
-use Rattle.text.specs.QuickLoops.{Above, Good, Each, ended, FieldsAt, FieldsRead, Cleared, Room, ElementRead, LineQuick}
+use Rattle.text.specs.Loops.{Own}
+use Rattle.text.specs.QuickLoops.{Above, Good, Each, ended, FieldsRead, Cleared, Room, ElementRead, LineQuick}
 use Rattle.text.specs.declared.terms.Mark.{Mark}
 use Rattle.text.specs.declared.terms.Mark.the-variants.{Vx, Te, Py, Pz, Pr, Hx, En, Unknown}
 use Rattle.text.specs.declared.terms.Role.{Role}
-use Rattle.text.specs.declared.terms.Role.the-variants.{VertexLine, ElementLine, EndLine, UnknownLine}
+use Rattle.text.specs.declared.terms.Role.the-variants.{VertexLine, ElementLine}
 use Rattle.text.specs.declared.terms.Judged.the-variants.{Passed}
 use Rattle.text.specs.declared.terms.ReaderState.{ReaderState}
 use Rattle.text.specs.declared.terms.Rooms.{Rooms}
@@ -29,7 +29,7 @@ use Rattle.text.specs.declared.terms.Line.the-variants.{Next}
 use Rattle.text.proofs.FieldLaws.{some-bytes}
 use Rattle.text.proofs.LineLaws.{line-next}
 use Rattle.text.proofs.MarkLaws.{low-first, low-second}
-use Rattle.text.proofs.QuickNumbers.{above-append, above-lower, above-free, from-place}
+use Rattle.text.proofs.QuickNumbers.{above-append, above-lower, above-free}
 
 -- ---- the record of an element line
 

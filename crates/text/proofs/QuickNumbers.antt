@@ -6,20 +6,18 @@ use native.Mathlib.Numerals.{add-one}
 use native.Mathlib.Omega.{arith}
 use mathlib.Core.Path.{_≡_, refl, sym, ap, _∙_}
 use mathlib.Core.Bool.{Bool, true, false, cond}
-use mathlib.Core.List.{List, [], _∷_, _++_, append-assoc, append-nil}
+use mathlib.Core.List.{List, [], _∷_, _++_, append-assoc}
 use lib.Dec.{eqb, leb, lit<}
 use lib.IntN.{pos, negℤ}
 use lib.ListN.{length, getD, drop, length-append, List·getD-append}
 use lib.Seq.{drop-cons, getD-drop}
 use borrow.Author.Tests.{leb-true, le-leb, eqb-true, eqb-false, eq-eqb, ne-eqb}
-use Rattle.laws.specs.Pieces.{split}
 use Rattle.laws.proofs.PieceLaws.{Free, split-joined, split-free}
 use Rattle.text.specs.Constants.{comma, minus, point, digit0, digit9, wholeDigits, decimalDigits, numberDigits, coordinateLimit}
-use Rattle.text.specs.Number.{appended, onto, spelt, whole, decimals, signed, millimetres, unsigned, coordinateOf, numberOf}
+use Rattle.text.specs.Number.{appended, onto, spelt, whole, decimals, millimetres, unsigned, coordinateOf, numberOf}
 use Rattle.text.specs.QuickLoops.{Above, DigitsAt, WholeAt, Within, DecimalsAt, MagnitudeAt, CoordinateAt, NumberAt, scaled, startOf}
 use Rattle.text.specs.declared.terms.Spelt.{Spelt}
 use Rattle.text.specs.declared.terms.Spelt.the-variants.{Of, Not}
-use Rattle.text.specs.declared.terms.Coordinate.the-variants.{Thousandths}
 use Rattle.text.proofs.NumberLaws.{appended-small}
 
 -- ---- bytes
@@ -254,9 +252,6 @@ module _ (t : List ℕ) (i stop n next : ℕ) where
     is = rw (split-free comma (minus ∷ m .field) (λ z. omega arith, above-free point comma (m .field) (omega arith) (m .plain))) (m .is true);
     plain = (omega arith, above-lower point minus (m .field) (omega arith) (m .plain));
   }
-
-  pub start-here : startOf (getD t i 0) i ≡ i → getD t i 0 ≡ minus → ⊥
-  start-here e q = let z : i + 1 ≡ i = rw (eq-eqb (getD t i 0) minus q) at e in omega arith
 
   -- elsewhere than at i: behind the minus
   pub start-behind : (startOf (getD t i 0) i ≡ i → ⊥) → getD t i 0 ≡ minus

@@ -1,7 +1,6 @@
 -- `text::file::read_lines` judges a file and keeps its records. Invariant: the whole is judged as the rest is from this state, and its records
 -- are those that are kept, then those of the rest. Assumes nothing.
 use native.Mathlib.Omega.{arith}
-use mathlib.Core.Path.{_≡_, sym, _∙_}
 use borrow.Author.Needs.{needs}
 use borrow.Author.Tests.{lt-ltb}
 use denote.Ref.{now}

@@ -1,7 +1,7 @@
 -- `text::quick::clear` stores zeros. Invariant: they stand up to index k. Assumes nothing.
-use Prim.Native.Nat.{_+_, _-_, _≤_}
+use Prim.Native.Nat.{_-_, _≤_}
 use native.Mathlib.Omega.{arith}
-use mathlib.Core.Path.{_≡_, refl, sym}
+use mathlib.Core.Path.{_≡_}
 use Rattle.text.specs.QuickLoops.{Cleared}
 use Rattle.text.proofs.QuickFields.{cleared-none, cleared-more}
 use borrow.Author.Needs.{needs}

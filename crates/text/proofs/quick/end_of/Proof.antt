@@ -1,6 +1,5 @@
 -- `text::quick::end_of` gives the byte that ends a field. Assumes nothing.
 use borrow.Author.Tests.{eq-eqb, ne-eqb}
-use borrow.Author.Needs.{needs}
 use Rattle.text.proofs.quick.end_of.Statement.{statement}
 use Rattle.text.proofs.quick.end_of.Tie as tie
 

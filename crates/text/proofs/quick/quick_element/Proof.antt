@@ -1,7 +1,7 @@
 -- `text::quick::quick_element` reads the record of an element line. Assumes nothing.
 use Prim.Native.Nat.{_*_}
 use native.Mathlib.Omega.{arith}
-use mathlib.Core.Path.{refl, sym, _∙_}
+use mathlib.Core.Path.{sym, _∙_}
 use lib.ListN.{length-set}
 use Rattle.text.proofs.QuickLines.{wants-few, element-none, element-read}
 use borrow.Author.Needs.{needs}

@@ -1,6 +1,5 @@
 -- `text::quick::quick_number` reads a vertex number and its end. Assumes nothing.
 use Prim.Native.Nat.{_<_}
-use native.Mathlib.Omega.{arith}
 use mathlib.Core.Path.{refl, sym, _∙_}
 use lib.ListN.{length}
 use Rattle.text.proofs.QuickNumbers.{place-inside, number-at}
