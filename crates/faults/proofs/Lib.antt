@@ -1,1 +1,2 @@
+-- What is proved of refusals.
 pub mod Theorems

@@ -1,3 +1,4 @@
+-- Laws about no mesh: tests, lists, pieces of a text, lent memory, searches, whole numbers.
 pub mod TestLaws
 pub mod EveryLaws
 pub mod TableLaws

@@ -158,72 +158,81 @@ fn cuts() {
     cut(b"no room for twelve:", 12, 2, &two);
 }
 
+// The corners of a prism, three numbers a vertex.
+const POINTS: [i32; 18] = [
+    0,
+    0,
+    0,
+    1250,
+    0,
+    0,
+    0,
+    1250,
+    0,
+    0,
+    0,
+    1000,
+    1250,
+    0,
+    1000,
+    0,
+    1250,
+    1000,
+];
+
+// The same in one plane.
+const FLAT: [i32; 18] = [
+    0,
+    0,
+    0,
+    1250,
+    0,
+    0,
+    0,
+    1250,
+    0,
+    0,
+    0,
+    0,
+    1250,
+    0,
+    0,
+    0,
+    1250,
+    0,
+];
+
+// The same with a coordinate beyond the limits.
+const FAR: [i32; 18] = [
+    0,
+    0,
+    0,
+    1250,
+    0,
+    0,
+    0,
+    500001,
+    0,
+    0,
+    0,
+    1000,
+    1250,
+    0,
+    1000,
+    0,
+    1250,
+    1000,
+];
+
 fn reports() {
     let prism = [6u16, 1, 2, 3, 4, 5, 6, 0, 0];
     let mirrored = [6u16, 1, 3, 2, 4, 6, 5, 0, 0];
-    let points = [
-        0i32,
-        0,
-        0,
-        1250,
-        0,
-        0,
-        0,
-        1250,
-        0,
-        0,
-        0,
-        1000,
-        1250,
-        0,
-        1000,
-        0,
-        1250,
-        1000,
-    ];
+    let points = POINTS;
     signs(b"the prism:", 1, &prism, &points);
     signs(b"mirrored:", 1, &mirrored, &points);
-    let flat = [
-        0i32,
-        0,
-        0,
-        1250,
-        0,
-        0,
-        0,
-        1250,
-        0,
-        0,
-        0,
-        0,
-        1250,
-        0,
-        0,
-        0,
-        1250,
-        0,
-    ];
+    let flat = FLAT;
     signs(b"flat:", 1, &prism, &flat);
-    let far = [
-        0i32,
-        0,
-        0,
-        1250,
-        0,
-        0,
-        0,
-        500001,
-        0,
-        0,
-        0,
-        1000,
-        1250,
-        0,
-        1000,
-        0,
-        1250,
-        1000,
-    ];
+    let far = FAR;
     signs(b"a vertex beyond the limits:", 1, &prism, &far);
     let short = [0i32, 0, 0];
     signs(b"a short vertex table:", 1, &prism, &short);

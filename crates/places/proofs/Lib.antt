@@ -1,2 +1,3 @@
+-- What is proved of the looked-up places.
 pub mod TableLaws
 pub mod Theorems

@@ -1,1 +1,2 @@
+-- What the sample program of reading wants.
 pub mod SizeOf

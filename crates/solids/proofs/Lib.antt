@@ -1,3 +1,4 @@
+-- What is proved of solids, their cut and how they fit.
 pub mod SampleLaws
 pub mod AscendingLaws
 pub mod WrittenLaws

@@ -1,3 +1,4 @@
+-- What is proved of reading a text file.
 pub mod PartLaws
 pub mod NumberLaws
 pub mod MarkLaws

@@ -1,3 +1,4 @@
+-- `judging::fit::cycles::equal` meets its contract: two cycles are compared corner by corner. Assumes nothing.
 use borrow.Author.Needs.{needs}
 use borrow.Author.Tests.{eq-eqb, ne-eqb}
 use Rattle.judging.specs.FitLoops.{faceOf}
