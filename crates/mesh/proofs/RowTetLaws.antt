@@ -11,7 +11,7 @@ use lib.ListN.{length, getD, drop, length-drop}
 use lib.Seq.{drop-cons}
 use Rattle.solids.specs.Solids.{Tet, onTet, at}
 use Rattle.solids.specs.Rows.{rowPlaces, rowPlace, rowTets}
-use Rattle.places.proofs.TableLaws.{row-length}
+use Rattle.solids.proofs.RowPlaces.{row-length}
 use Rattle.mesh.specs.BlockLoops.{rowTet, rowTetsAt}
 
 -- four places more

@@ -7,6 +7,7 @@ use Rattle.solids.specs.declared.Solid.{Solid}
 use Rattle.solids.specs.declared.Place.{Place}
 use Rattle.solids.specs.Solids.{faceCount, facePlace}
 use Rattle.solids.specs.Rows.{rowPlace, cutPlaces}
+use Rattle.solids.proofs.RowPlaces as RowPlaces
 use Rattle.places.proofs.TableLaws as TableLaws
 
 -- `face_count`
@@ -33,4 +34,4 @@ pub face-place-small : (s : Solid) (i k : ℕ) → facePlace s i k ≤ 8
 face-place-small = TableLaws.face-place-small
 
 pub row-place-small : (r k : ℕ) → rowPlace r k ≤ 8
-row-place-small = TableLaws.row-place-small
+row-place-small = RowPlaces.row-place-small

@@ -6,6 +6,7 @@ pub mod RenamingLaws
 pub mod NumberingLaws
 pub mod ShapeLaws
 pub mod RowLaws
+pub mod RowPlaces
 pub mod SideLaws
 pub mod LocalTest
 pub mod ClosedElement

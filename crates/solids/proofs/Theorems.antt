@@ -3,18 +3,18 @@
 use mathlib.Core.Path.{_≡_, refl}
 use mathlib.Core.Bool.{Bool, true, false, cond}
 use mathlib.Core.List.{List, [], _∷_, map, List·Memᴰ}
-use Prim.Native.Nat.{ℕ, _*_, _≤_, _<_}
+use Prim.Native.Nat.{ℕ, _+_, _*_, _≤_, _<_}
 use native.Mathlib.Omega.{arith}
 use lib.Dec.{T, eqb}
 use lib.IntN.{pos}
-use lib.ListN.{length}
+use lib.ListN.{length, getD}
 use borrow.Author.Tests.{eq-eqb, eqb-true}
 use Rattle.laws.specs.Words.{count, every, gather, among, distinct}
 use Rattle.solids.specs.Solids.{Place, Vertex, Solid, tetrahedron, pyramid, prism, hexahedron, Face, Tet, tet, Element, element, corners, faces, ofFace, ofTet, cornersOf, facesOf}
 use Rattle.solids.specs.Rotations.{isRotation, relisted, rotations}
 use Rattle.solids.specs.Cut.{through, howMany, written, cut, cutMesh}
 use Rattle.solids.specs.Reference.{volumeOn, positive, counterclockwise, addUp, Filled}
-use Rattle.solids.specs.Rows.{rowPlaces, rowTets, cutByRow}
+use Rattle.solids.specs.Rows.{cutPlaces, rowPlaces, rowPlace, rowTets, cutByRow}
 use Rattle.solids.specs.Samples.{Sample, samples}
 use Rattle.solids.specs.Fit.{proper, sameSet, fits, fitting}
 use Rattle.solids.specs.Surface.{Plain, Piece, byRule, Closed, Agreeing, wholes, SurfaceOf, SurfaceCut, CutAlike}
@@ -24,6 +24,7 @@ use Rattle.laws.proofs.EveryLaws.{every-at}
 use Rattle.solids.proofs.ShapeLaws.{from-proper}
 use Rattle.solids.proofs.SampleLaws as SampleLaws
 use Rattle.solids.proofs.RowLaws as RowLaws
+use Rattle.solids.proofs.RowPlaces as RowPlaces
 use Rattle.solids.proofs.CountLaws as CountLaws
 use Rattle.solids.proofs.TetLaws as TetLaws
 use Rattle.solids.proofs.ReferenceTest as ReferenceTest
@@ -50,6 +51,10 @@ samples-hold = SampleLaws.samples-hold
 -- the 64 rows agree with the rule: for every hexahedron of eight different vertex numbers
 pub rows-agree : (vs : List Vertex) → T (proper (element hexahedron vs)) → cutByRow vs ≡ cut (element hexahedron vs)
 rows-agree vs h = RowLaws.rows-agree vs (from-proper hexahedron vs h)
+
+-- the table of 1,536 places is the 64 rows of 24 places, one after the other
+pub row-places : (r k : ℕ) → r < 64 → k < 24 → rowPlace r k ≡ getD cutPlaces (r * 24 + k) 0
+row-places = RowPlaces.row-entry
 
 -- how many tetrahedra an element gives
 pub cut-many : (e : Element) → T (proper e) → length (cut e) ≡ howMany e

@@ -2,7 +2,7 @@
 -- Assumes nothing.
 use borrow.Author.Needs.{needs}
 use mathlib.Core.Path.{sym, _∙_}
-use Rattle.places.proofs.TableLaws.{row-beyond, entry-beyond, row-entry}
+use Rattle.solids.proofs.RowPlaces.{row-beyond, entry-beyond, row-entry}
 use Rattle.places.proofs.row_place.Statement.{statement}
 use Rattle.places.proofs.row_place.Tie as tie
 

@@ -4,7 +4,7 @@ use mathlib.Core.Path.{sym, ap, _∙_}
 use mathlib.Core.List.{List}
 use Prim.Native.Nat.{ℕ, _+_, _*_}
 use lib.ListN.{getD}
-use Rattle.places.proofs.TableLaws.{row-entry}
+use Rattle.solids.proofs.RowPlaces.{row-entry}
 use borrow.Author.Needs.{needs}
 use Rattle.mesh.proofs.blocks.place_in.Statement.{statement}
 use Rattle.mesh.proofs.blocks.place_in.Tie as tie

@@ -4,7 +4,7 @@ use mathlib.Core.Path.{ap, _∙_}
 use native.Mathlib.Omega.{arith}
 use denote.Ref.{now}
 use Rattle.solids.specs.Solids.{at}
-use Rattle.places.proofs.TableLaws.{row-place-small}
+use Rattle.solids.proofs.RowPlaces.{row-place-small}
 use Rattle.mesh.specs.BlockLoops.{cornersIn}
 use Rattle.mesh.proofs.blocks.row_vertex.Statement.{statement}
 use Rattle.mesh.proofs.blocks.row_vertex.Tie as tie
