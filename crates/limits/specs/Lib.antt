@@ -1,0 +1,2 @@
+-- The numbers that the page names.
+pub mod Limits
