@@ -8,6 +8,7 @@ use native.Mathlib.Omega.{arith}
 use borrow.Author.Tests.{le-ltb, lt-ltb}
 use lib.Dec.{eqb, ltb}
 use lib.ListN.{length, getD}
+use Rattle.limits.specs.Limits.{elementLimit, tetrahedronWidth, vertexLimit, elementWidth}
 use Rattle.laws.specs.Words as words
 use Rattle.faults.specs.declared.Fault.the-variants as fault
 use Rattle.faults.specs.declared.Finding.the-variants.{Clean, Found}
@@ -15,8 +16,7 @@ use Rattle.faults.specs.declared.Refusal.{Refusal}
 use Rattle.faults.specs.Refusals.{Verdict, accepted, refused, numberOf, refuse, refusePair, refuseIf, andThen}
 use Rattle.solids.specs.Solids.{Element}
 use Rattle.solids.specs.Cut.{cutMesh}
-use Rattle.records.specs.Record.{width, usedOf, spareOf, kindOf, isKind, notZero, recordFinding, recordAt, firstElements}
-use Rattle.records.specs.Limits.{elementLimit, tetrahedronWidth, vertexLimit}
+use Rattle.records.specs.Record.{usedOf, spareOf, kindOf, isKind, notZero, recordFinding, recordAt, firstElements}
 use Rattle.judging.specs.Judge.{faultIn, badRecord, badElement, misfit, judged}
 use Rattle.mesh.specs.Cutting.{cutOf}
 use Rattle.judging.proofs.Theorems.{accepted-tetrahedra}
@@ -49,7 +49,7 @@ at-then (refused r) f h g = h
 -- a record without a stray vertex
 finding-late : (v : ℕ) (r : List ℕ) → NoStray v r → 10 < numberOf (faultIn (recordFinding v r))
 unfolding recordFinding
-finding-late v r h = rw (h .none) (go (not (eqb (length r) width && isKind (kindOf r))) (words.some notZero (spareOf r)) (not (words.distinct (usedOf r))))
+finding-late v r h = rw (h .none) (go (not (eqb (length r) elementWidth && isKind (kindOf r))) (words.some notZero (spareOf r)) (not (words.distinct (usedOf r))))
   where
     go : (a b c : Bool)
         → 10 < numberOf (faultIn (cond a (Found fault.Kind) (cond b (Found fault.Spare) (cond c (Found fault.Repeat) Clean))))
@@ -58,11 +58,11 @@ finding-late v r h = rw (h .none) (go (not (eqb (length r) width && isKind (kind
     go false false true = omega arith
     go false false false = omega arith
 
-module _ (v n : ℕ) (t : List ℕ) (vertices : v ≤ vertexLimit) (elements : n ≤ elementLimit) (long : width * n ≤ length t) (sound : (k : ℕ) → NoStray v (recordAt t k)) where
+module _ (v n : ℕ) (t : List ℕ) (vertices : v ≤ vertexLimit) (elements : n ≤ elementLimit) (long : elementWidth * n ≤ length t) (sound : (k : ℕ) → NoStray v (recordAt t k)) where
   judged-late : AtElements (judged v n t)
   unfolding judged
   judged-late =
-      rw (le-ltb vertexLimit v vertices, le-ltb elementLimit n elements, le-ltb (length t) (width * n) long)
+      rw (le-ltb vertexLimit v vertices, le-ltb elementLimit n elements, le-ltb (length t) (elementWidth * n) long)
       (at-if (ltb 0 (badRecord v t n)) (refuse (faultIn (recordFinding v (recordAt t (pred (badRecord v t n))))) (badRecord v t n)) _
       (record { late = finding-late v (recordAt t (pred (badRecord v t n))) (sound (pred (badRecord v t n))) })
       (at-if (ltb 0 (badElement t n)) (refusePair (badElement t n) (misfit t (pred (badElement t n)))) (accepted (firstElements t n)) (record { late = omega arith }) tt))
@@ -86,7 +86,7 @@ conversion-late input counts e =
     let t = recordsFrom elementRecords start (linesOf input) in
     let few : getD counts 0 0 ≤ vertexLimit = rw v (f .kept .vertices) in
     let small : getD counts 1 0 ≤ elementLimit = rw n (f .kept .elements) in
-    let long : width * getD counts 1 0 ≤ length t = rw (n, f .elements) (omega arith) in
+    let long : elementWidth * getD counts 1 0 ≤ length t = rw (n, f .elements) (omega arith) in
     rw e
     (at-then (cutOf (getD counts 0 0) (getD counts 1 0) t cutRoom) _
     (cut-late (getD counts 0 0) (getD counts 1 0) t few small long (file-sound rooms counts input e)) (λ ts q. tt))

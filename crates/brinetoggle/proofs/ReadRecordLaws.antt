@@ -9,14 +9,14 @@ use borrow.Author.Tests.{eqb-true, ltb-false, le-ltb, not-false}
 use lib.Dec.{eqb, ltb}
 use lib.ListN.{length, getD, length-map}
 use lib.Seq.{take-at, drop-nil, drop-append-add}
+use Rattle.limits.specs.Limits.{space, markWidth, elementWidth}
 use Rattle.laws.specs.Pieces.{Pieces, rest, piece}
 use Rattle.laws.specs.Words as words
 use Rattle.faults.specs.Refusals.{accepted}
 use Rattle.faults.specs.declared.Fault.{Fault}
 use Rattle.faults.specs.declared.Fault.the-variants as fault
-use Rattle.records.specs.Record.{width, kindOf, usedOf, strayVertex, recordAt}
+use Rattle.records.specs.Record.{kindOf, usedOf, strayVertex, recordAt}
 use Rattle.records.specs.Record as record-fields
-use Rattle.text.specs.Constants.{space, markWidth}
 use Rattle.text.specs.Number.{numberOf, valueIn, valueOf}
 use Rattle.text.specs.Line.{markOf, wants, roleOf, fieldsOf, some, areFields, firstOf, judgeVertex, fieldVerdict, first, fieldsVerdict, badShape, afterRole, after}
 use Rattle.text.specs.File.{start, linesOf, fileVerdict}
@@ -98,15 +98,15 @@ nothing-stray v = record { none = refl }
 -- the records of a table, one after the other, have none
 data Records (v : ℕ) : List ℕ → Type 0 where
   no-more : (u : List ℕ) → u ≡ [] → Records v u
-  one-more : (r t u : List ℕ) → u ≡ r ++ t → length r ≡ width → NoStray v r → Records v t → Records v u
+  one-more : (r t u : List ℕ) → u ≡ r ++ t → length r ≡ elementWidth → NoStray v r → Records v t → Records v u
 
 record-at : (v : ℕ) {u : List ℕ} → Records v u → (k : ℕ) → NoStray v (recordAt u k)
 unfolding recordAt
-record-at v (no-more u e) k = rw (e, drop-nil (width * k)) (nothing-stray v)
-record-at v (one-more r t u e l s c) zero = rw (e, take-at r t width l) s
+record-at v (no-more u e) k = rw (e, drop-nil (elementWidth * k)) (nothing-stray v)
+record-at v (one-more r t u e l s c) zero = rw (e, take-at r t elementWidth l) s
 record-at v (one-more r t u e l s c) (suc k) =
-    let n : width * suc k ≡ length r + width * k = rw l (omega arith) in
-    rw (e, n, drop-append-add r t (width * k)) (record-at v c k)
+    let n : elementWidth * suc k ≡ length r + elementWidth * k = rw l (omega arith) in
+    rw (e, n, drop-append-add r t (elementWidth * k)) (record-at v c k)
 
 -- ---- the record of a line
 
@@ -146,7 +146,7 @@ eight-fields true = refl
 eight-fields false = refl
 
 -- a record has nine numbers
-record-nine : (state : ReaderState) (m : Mark) (p : Pieces) → length (elementRecord state m p) ≡ width
+record-nine : (state : ReaderState) (m : Mark) (p : Pieces) → length (elementRecord state m p) ≡ elementWidth
 unfolding elementRecord
 record-nine state m p = ap suc (length-map (cornerFields (tipFirst m)) (λ k. getD (firstOf valueOf 8 p) k 0) ∙ eight-fields (tipFirst m))
 

@@ -14,7 +14,7 @@ use Rattle.faults.specs.declared.Fault.{Fault}
 use Rattle.faults.specs.declared.Fault.the-variants as fault
 use Rattle.faults.specs.declared.Refusal.{Refusal}
 use Rattle.faults.specs.Refusals.{Verdict, accepted, refused, numberOf, refuse}
-use Rattle.text.specs.Constants as text
+use Rattle.limits.specs.Limits as limits
 use Rattle.text.specs.Number.{cut, whole, decimals, millimetres, unsigned, coordinateOf}
 use Rattle.text.specs.Number as number
 use Rattle.text.specs.Line.{markOf, roleOf, wants, fieldsOf, judgeCoordinate, judgeCount, judgeVertex, fieldVerdict, first, fieldsVerdict, badMark, tooMany, badShape, noRoom, badCounts, given, judged, lineVerdict}
@@ -69,22 +69,22 @@ choice P false x y p q = q
 millimetres-in : (neg : Bool) (w f : Spelt) → InField (millimetres neg w f)
 unfolding millimetres
 millimetres-in neg (Of w) (Of f) =
-    choice InField (leb (w * 1000 + f) text.coordinateLimit) (Thousandths (number.signed neg (w * 1000 + f))) (Wrong fault.Range) tt tt
+    choice InField (leb (w * 1000 + f) limits.coordinateLimit) (Thousandths (number.signed neg (w * 1000 + f))) (Wrong fault.Range) tt tt
 millimetres-in neg (Of w) Not = tt
 millimetres-in neg Not (Of f) = tt
 millimetres-in neg Not Not = tt
 
 unsigned-in : (neg : Bool) (p : Pieces) → InField (unsigned neg p)
 unfolding unsigned
-unsigned-in neg (rest w) = millimetres-in neg (whole text.wholeDigits w) (Of 0)
-unsigned-in neg (piece w (rest f)) = millimetres-in neg (whole text.wholeDigits w) (decimals f)
+unsigned-in neg (rest w) = millimetres-in neg (whole limits.wholeDigits w) (Of 0)
+unsigned-in neg (piece w (rest f)) = millimetres-in neg (whole limits.wholeDigits w) (decimals f)
 unsigned-in neg (piece w (piece f p)) = tt
 
 coordinate-in : (l : List ℕ) → InField (coordinateOf l)
 unfolding coordinateOf
 coordinate-in l =
-    choice InField (cut (split text.comma l)) (Wrong fault.Comma) _ tt
-    (choice InField (eqb (getD l 0 0) text.minus) _ _ (unsigned-in true (split text.point (drop 1 l))) (unsigned-in false (split text.point l)))
+    choice InField (cut (split limits.comma l)) (Wrong fault.Comma) _ tt
+    (choice InField (eqb (getD l 0 0) limits.minus) _ _ (unsigned-in true (split limits.point (drop 1 l))) (unsigned-in false (split limits.point l)))
 
 judged-coordinate : (c : Coordinate) → InField c → InFields (judgeCoordinate c)
 judged-coordinate (Thousandths z) h = tt
@@ -171,9 +171,9 @@ long-spot r e = rw e
 
 -- the file itself where it is too long, else the line that the refusal names
 pub read-spot : (rooms : Rooms) (file : List ℕ) (r : Refusal) → fileVerdict rooms file ≡ refused r
-    → spotOf r ≡ cond (ltb text.fileLimit (length file)) spot.File (spot.Line (r .place))
+    → spotOf r ≡ cond (ltb limits.fileLimit (length file)) spot.File (spot.Line (r .place))
 unfolding fileVerdict
-read-spot rooms file r = go (ltb text.fileLimit (length file)) (fileFrom rooms start 1 (linesOf file)) (lines-in rooms start 1 (linesOf file) (omega arith))
+read-spot rooms file r = go (ltb limits.fileLimit (length file)) (fileFrom rooms start 1 (linesOf file)) (lines-in rooms start 1 (linesOf file) (omega arith))
   where
     at : (v : Verdict (List ℕ)) → InLines v → v ≡ refused r → spotOf r ≡ spot.Line (r .place)
     at (accepted counts) h e = absurd (let q : _≡_ {A = ℕ} 0 1 = cc in omega arith)

@@ -14,10 +14,10 @@ use borrow.Author.Tests.{lt-ltb, ltb-true, ltb-false}
 use lib.Dec.{eqb, ltb}
 use lib.ListN.{length, take}
 use lib.Seq.{take-all, length-take-le}
+use Rattle.limits.specs.Limits.{fileLimit}
 use Rattle.faults.specs.declared.Fault.the-variants as fault
 use Rattle.faults.specs.declared.Refusal.{Refusal}
 use Rattle.faults.specs.Refusals.{accepted, refused, refuse, numberOf}
-use Rattle.text.specs.Constants.{fileLimit}
 use Rattle.text.specs.File.{fileVerdict}
 use Rattle.text.specs.declared.terms.Rooms.{Rooms}
 use Rattle.converting.specs.Conversion.{rooms, conversion, programOutput}

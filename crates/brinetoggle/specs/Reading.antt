@@ -1,7 +1,7 @@
 -- What reading standard input can say: no contract can name the bytes that a read of the system gives.
 use Prim.Native.Nat.{ℕ, zero, suc, _+_, _≤_, _<_}
 use lib.IntN.{ℤ, pos, negsuc}
-use Rattle.text.specs.Constants.{fileLimit}
+use Rattle.limits.specs.Limits.{fileLimit}
 use Rattle.brinetoggle.specs.declared.reading.Input.{Input}
 use Rattle.brinetoggle.specs.declared.reading.Input.the-variants.{Got, Failed}
 use Rattle.brinetoggle.specs.declared.reading.Turn.{Turn}

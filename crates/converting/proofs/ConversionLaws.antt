@@ -8,10 +8,9 @@ use lib.IntN.{ℤ}
 use lib.ListN.{length, take, length-take}
 use mir.Syntax.{w64}
 use mir.Val.{Fits}
+use Rattle.limits.specs.Limits.{vertexLimit, vertexWidth, tetrahedronWidth, elementWidth}
 use Rattle.faults.specs.declared.Refusal.{Refusal}
 use Rattle.faults.specs.Refusals.{Verdict, accepted, refused, andThen}
-use Rattle.records.specs.Limits.{vertexLimit, vertexWidth, tetrahedronWidth}
-use Rattle.records.specs.Record.{width}
 use Rattle.solids.specs.Solids.{Vertex, Tet}
 use Rattle.mesh.specs.Cutting.{cutOf}
 use Rattle.text.specs.File.{fileVerdict}
@@ -71,7 +70,7 @@ module _ (input old : List ℕ) where
   reading-refused e = record { left = left-refused old (rw e) }
 
   pub reading-written : {v n : ℕ} {vertices : List ℤ} {elements new : List ℕ} {r : ConvertAnswer} (s : Read input v n vertices elements)
-      → Left (cutVerdict (take (vertexWidth * v) vertices) v (take (width * n) elements) n (length old)) old r new
+      → Left (cutVerdict (take (vertexWidth * v) vertices) v (take (elementWidth * n) elements) n (length old)) old r new
       → ConvertDone input old r new
   unfolding conversionInto conversion cutVerdict
   reading-written {v} {n} s w = record {
@@ -84,13 +83,13 @@ module _ {input : List ℕ} {v n : ℕ} {vertices : List ℤ} {elements : List �
   pub vertices-fit : Fits w64 (vertexWidth * v)
   vertices-fit = record { fits = omega (arith, s .good .few) }
 
-  pub elements-fit : Fits w64 (width * n)
+  pub elements-fit : Fits w64 (elementWidth * n)
   elements-fit = record { fits = omega (arith, s .few) }
 
   pub vertices-within : vertexWidth * v ≤ length vertices
   vertices-within = part-within vertices (s .vertexEnd)
 
-  pub elements-within : width * n ≤ length elements
+  pub elements-within : elementWidth * n ≤ length elements
   elements-within = part-within elements (s .elementEnd)
 
   pub vertices-good : GoodVertices (take (vertexWidth * v) vertices) v

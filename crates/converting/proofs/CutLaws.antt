@@ -8,6 +8,7 @@ use Prim.Native.Nat.{ℕ, zero, suc, _*_, _≤_, _<_}
 use native.Mathlib.Omega.{arith}
 use lib.Dec.{T, ltb, leb, leb→le, le→leb}
 use lib.ListN.{length, getD, take}
+use Rattle.limits.specs.Limits.{vertexLimit, tetrahedronLimit, tetrahedronWidth}
 use Rattle.laws.specs.Words.{gather, every, among, distinct}
 use Rattle.laws.specs.Lent.{laid}
 use Rattle.laws.proofs.TestLaws.{and-left, and-right, and-both}
@@ -21,9 +22,8 @@ use Rattle.solids.specs.Solids.{Vertex, Tet, ofTet, Element, cornersOf}
 use Rattle.solids.specs.Cut.{cut, cutMesh}
 use Rattle.solids.specs.Fit.{proper}
 use Rattle.solids.proofs.Theorems.{plain}
-use Rattle.records.specs.Limits.{vertexLimit, tetrahedronLimit, tetrahedronWidth}
 use Rattle.records.specs.Record.{asRecord, usedOf, elementOf, recordFinding, recordAt, elementAt, firstElements}
-use Rattle.records.specs.Loops.{isNumber}
+use Rattle.records.specs.WholeRecords.{isNumber}
 use Rattle.records.proofs.Theorems.{faultless-clean, first-all}
 use Rattle.mesh.specs.declared.CutAnswer.{CutAnswer}
 use Rattle.mesh.specs.declared.CutAnswer.the-variants.{Done, Refused}

@@ -7,10 +7,10 @@ use native.Mathlib.Omega.{arith}
 use lib.IntN.{ℤ, pos}
 use lib.ListN.{length, getD, take, drop}
 use lib.Seq.{getD-take, getD-drop, drop-drop, take-at, drop-at}
+use Rattle.limits.specs.Limits.{vertexWidth, tetrahedronWidth, elementWidth}
 use Rattle.laws.specs.Words.{gather}
 use Rattle.laws.proofs.ListLaws.{gather-append}
-use Rattle.records.specs.Limits.{vertexWidth, tetrahedronWidth}
-use Rattle.records.specs.Record.{width, asRecord}
+use Rattle.records.specs.Record.{asRecord}
 use Rattle.solids.specs.Solids.{Vertex, Tet, tet, ofTet}
 use Rattle.mesh.specs.Cutting.{flat}
 use Rattle.text.specs.File.{start}
@@ -82,7 +82,7 @@ module _ {A B : Type 0} (f : A → List B) (w : ℕ) (wide : (x : A) → length 
 four-wide : (t : Tet Vertex) → length (ofTet t) ≡ tetrahedronWidth
 four-wide (tet a b c d) = refl
 
-record-wide : (t : Tet Vertex) → length (asRecord t) ≡ width
+record-wide : (t : Tet Vertex) → length (asRecord t) ≡ elementWidth
 record-wide (tet a b c d) = refl
 
 -- what is read where there is no tetrahedron
@@ -108,9 +108,9 @@ module _ (ts : List (Tet Vertex)) (k : ℕ) (h : k < length ts) where
       (ap (λ (i : ℕ). getD (flat ts) i 0) (sym (add-zero (tetrahedronWidth * k))) ∙ vertex-number 0 (omega arith))
       (vertex-number 1 (omega arith)) (vertex-number 2 (omega arith)) (vertex-number 3 (omega arith))
 
-  tetrahedron-same : closed (elementLine (take width (drop (width * k) (gather asRecord ts)))) ≡ tetrahedronText (flat ts) k
+  tetrahedron-same : closed (elementLine (take elementWidth (drop (elementWidth * k) (gather asRecord ts)))) ≡ tetrahedronText (flat ts) k
   unfolding tetrahedronText
-  tetrahedron-same = ap (λ r. closed (elementLine r)) (gathered-at asRecord width record-wide ts noTet k h ∙ sym tetrahedron-record)
+  tetrahedron-same = ap (λ r. closed (elementLine r)) (gathered-at asRecord elementWidth record-wide ts noTet k h ∙ sym tetrahedron-record)
 
 -- ---- the whole
 
@@ -119,10 +119,10 @@ unfolding cutText writtenFile fileLines meshText vertexLines elementLines lineOf
 cut-text table v ts =
     let vs = linesFrom vertexLines vertexWidth start v table in
     let s = afterLines start vs in
-    let es = linesFrom elementLines width s (length ts) (gather asRecord ts) in
+    let es = linesFrom elementLines elementWidth s (length ts) (gather asRecord ts) in
     let en = endLine v (length ts) in
     gather-append closed vs (es ++ (en ∷ []))
     ∙ ap (λ (l : List ℕ). gather closed vs ++ l) (gather-append closed es (en ∷ []) ∙ ap (λ (l : List ℕ). gather closed es ++ l) (append-nil (closed en)))
     ∙ ap₂ {C = List ℕ} (λ l m. l ++ (m ++ closed en))
     (lines-text vertexLines lineOf (λ s r. refl) vertexWidth v start table ∙ text-same _ _ v (λ k h. vertex-same table k))
-    (lines-text elementLines elementLine (λ s r. refl) width (length ts) s (gather asRecord ts) ∙ text-same _ _ (length ts) (λ k h. tetrahedron-same ts k h))
+    (lines-text elementLines elementLine (λ s r. refl) elementWidth (length ts) s (gather asRecord ts) ∙ text-same _ _ (length ts) (λ k h. tetrahedron-same ts k h))

@@ -9,17 +9,17 @@ use native.Mathlib.Omega.{arith}
 use borrow.Author.Tests.{ltb-false}
 use lib.Dec.{eqb, ltb}
 use lib.ListN.{length, getD}
+use Rattle.limits.specs.Limits.{lineEnd, fileLimit, elementLimit, tetrahedronWidth, vertexLimit, elementWidth}
 use Rattle.laws.specs.Pieces.{Pieces, rest, piece, push, split}
 use Rattle.laws.specs.Searches.{least}
+use Rattle.laws.proofs.SearchLaws.{least-most}
 use Rattle.faults.specs.declared.Fault.the-variants as fault
 use Rattle.faults.specs.declared.Refusal.{Refusal}
 use Rattle.faults.specs.Refusals.{Verdict, accepted, refused, refuse, refusePair, refuseIf, andThen}
-use Rattle.records.specs.Record.{width, recordFinding, recordAt, firstElements}
+use Rattle.records.specs.Record.{recordFinding, recordAt, firstElements}
 use Rattle.solids.specs.Cut.{cutMesh}
-use Rattle.records.specs.Limits.{elementLimit, tetrahedronWidth, vertexLimit}
 use Rattle.judging.specs.Judge.{faultIn, badRecord, badElement, misfit, judged}
 use Rattle.mesh.specs.Cutting.{cutOf}
-use Rattle.text.specs.Constants.{lineEnd, fileLimit}
 use Rattle.text.specs.Line.{lineVerdict}
 use Rattle.text.specs.File.{start, linesOf, atEnd, onward, fileFrom, fileVerdict}
 use Rattle.text.specs.Records.{storedElements}
@@ -104,16 +104,6 @@ file-small r file = by (ltb fileLimit (length file)) refl
 
 -- ---- cutting
 
-least-within : (p : ℕ → Bool) (n : ℕ) → least p n ≤ n
-unfolding least
-least-within p zero = zero-le
-least-within p (suc n) = by (eqb (least p n) 0) (p n) (least-within p n)
-  where
-    by : (a b : Bool) → least p n ≤ n → cond a (cond b (suc n) 0) (least p n) ≤ suc n
-    by true true h = le-refl (suc n)
-    by true false h = zero-le
-    by false b h = omega arith
-
 module _ (m v n : ℕ) (t : List ℕ) (few : n ≤ m) where
   nowhere : Near m (refuse fault.Many 0)
   nowhere = record { place = zero-le; second = zero-le }
@@ -123,15 +113,15 @@ module _ (m v n : ℕ) (t : List ℕ) (few : n ≤ m) where
 
   at-record : badRecord v t n ≤ n
   unfolding badRecord
-  at-record = least-within _ n
+  at-record = least-most _ n
 
   at-element : badElement t n ≤ n
   unfolding badElement
-  at-element = least-within _ n
+  at-element = least-most _ n
 
   at-misfit : (j : ℕ) → misfit t j ≤ j
   unfolding misfit
-  at-misfit j = least-within _ j
+  at-misfit j = least-most _ j
 
   lower : (j : ℕ) → pred j ≤ j
   lower zero = zero-le
@@ -144,7 +134,7 @@ module _ (m v n : ℕ) (t : List ℕ) (few : n ≤ m) where
       let j = badElement t n in
       small-if m (ltb vertexLimit v) (refuse fault.Many 0) _ nowhere
       (small-if m (ltb elementLimit n) (refuse fault.Many 0) _ nowhere
-      (small-if m (ltb (length t) (width * n)) (refuse fault.Room 0) _ no-room
+      (small-if m (ltb (length t) (elementWidth * n)) (refuse fault.Room 0) _ no-room
       (small-if m (ltb 0 k) (refuse (faultIn (recordFinding v (recordAt t (pred k)))) k) _ (record { place = omega (arith, at-record); second = zero-le })
       (small-if m (ltb 0 j) (refusePair j (misfit t (pred j))) (accepted (firstElements t n))
       (record { place = omega (arith, at-element); second = omega (arith, at-misfit (pred j), lower j, at-element) }) tt))))

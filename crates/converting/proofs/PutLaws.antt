@@ -10,12 +10,12 @@ use lib.IntN.{ℤ}
 use lib.ListN.{length, take, drop, length-append, length-drop}
 use lib.Seq.{drop-drop, drop-length, take-append-seam, drop-append-seam}
 use borrow.Rule.Slice.PartMut.{midOf, putMid, post-is}
+use Rattle.limits.specs.Limits.{vertexLimit, tetrahedronLimit}
 use Rattle.laws.specs.Lent.{laid}
 use Rattle.laws.proofs.WordLaws.{part-from}
 use Rattle.writing.proofs.Theorems.{Written}
 use Rattle.writing.specs.declared.WriteAnswer.{WriteAnswer}
 use Rattle.writing.specs.Written.{closed, endLine}
-use Rattle.records.specs.Limits.{vertexLimit, tetrahedronLimit}
 use Rattle.converting.specs.Converting.{longestVertex, longestTetrahedron, longestEnd, longestOutput}
 use Rattle.converting.specs.ConversionLoops.{Put, lengthIn, vertexText, tetrahedronText, textTo, meshText}
 

@@ -9,6 +9,7 @@ use borrow.Author.Tests.{leb-true, le-leb}
 use lib.Dec.{T, eqb, leb}
 use lib.IntN.{ℤ}
 use lib.ListN.{length, getD, take, drop}
+use Rattle.limits.specs.Limits.{coordinateLimit, wholeDigits, comma, minus, point, vertexWidth, elementWidth}
 use Rattle.laws.specs.Words.{every}
 use Rattle.laws.specs.Lent.{laid}
 use Rattle.laws.specs.Pieces.{Pieces, rest, piece, split}
@@ -19,9 +20,6 @@ use Rattle.faults.specs.declared.Refusal.{Refusal}
 use Rattle.faults.specs.Refusals.{accepted, refused}
 use Rattle.faults.proofs.Theorems.{answer-tells-verdict}
 use Rattle.volume.specs.Volume.{inRange}
-use Rattle.records.specs.Limits.{vertexWidth}
-use Rattle.records.specs.Record.{width}
-use Rattle.text.specs.Constants.{coordinateLimit, wholeDigits, comma, minus, point}
 use Rattle.text.specs.Number.{cut, signed, millimetres, whole, decimals, unsigned, coordinateOf, thousandthsIn, thousandthsOf}
 use Rattle.text.specs.Line.{markOf, roleOf, fieldsOf, firstOf, after}
 use Rattle.text.specs.File.{start, linesOf, fileVerdict}
@@ -109,8 +107,8 @@ pub record Read (file : List ℕ) (vertices elements : ℕ) (vertexTable : List 
   pub verdict : fileVerdict rooms file ≡ accepted (vertices ∷ elements ∷ [])
   pub vertexNumbers : take (vertexWidth * vertices) vertexTable ≡ storedVertices rooms file
   pub vertexEnd : vertexWidth * vertices ≡ length (take (vertexWidth * vertices) vertexTable)
-  pub elementNumbers : take (width * elements) elementTable ≡ storedElements rooms file
-  pub elementEnd : width * elements ≡ length (take (width * elements) elementTable)
+  pub elementNumbers : take (elementWidth * elements) elementTable ≡ storedElements rooms file
+  pub elementEnd : elementWidth * elements ≡ length (take (elementWidth * elements) elementTable)
   pub few : elements ≤ 1024
   pub good : GoodVertices (storedVertices rooms file) vertices
 
@@ -157,7 +155,7 @@ module _ (file : List ℕ) (vertices : List ℤ) (elements : List ℕ) (vertexRo
       let vs : storedVertices rooms file ≡ recordsFrom vertexRecords start (linesOf file) = ap (λ x. ofAccepted x (recordsFrom vertexRecords start (linesOf file))) e in
       let es : storedElements rooms file ≡ recordsFrom elementRecords start (linesOf file) = ap (λ x. ofAccepted x (recordsFrom elementRecords start (linesOf file))) e in
       let vl : length (storedVertices rooms file) ≡ vertexWidth * c .vertices = rw (vs, v) (f .vertices) in
-      let el : length (storedElements rooms file) ≡ width * c .elements = rw (es, n) (f .elements) in
+      let el : length (storedElements rooms file) ≡ elementWidth * c .elements = rw (es, n) (f .elements) in
       let vt = front (storedVertices rooms file) vertices (rw same at (d .vertexTable)) vl in
       let et = front (storedElements rooms file) elements (rw same at (d .elementTable)) el in
       record {

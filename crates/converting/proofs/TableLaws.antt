@@ -7,10 +7,10 @@ use Prim.Native.Nat.{ℕ, _+_, _*_, _≤_, _<_}
 use native.Mathlib.Omega.{arith}
 use lib.IntN.{ℤ, pos}
 use lib.ListN.{length, getD}
+use Rattle.limits.specs.Limits.{vertexWidth}
 use Rattle.laws.proofs.TestLaws.{T-true}
 use Rattle.laws.proofs.EveryLaws.{every-index}
 use Rattle.volume.specs.Volume.{inRange}
-use Rattle.records.specs.Limits.{vertexWidth}
 use Rattle.records.specs.Record.{kindOf}
 use Rattle.writing.specs.Written.{writeVertexVerdict, writeElementVerdict}
 use Rattle.writing.specs.Writing.{WriteDone}

@@ -3,11 +3,11 @@ use mathlib.Core.List.{List}
 use Prim.Native.Nat.{ℕ, _*_}
 use lib.IntN.{ℤ}
 use lib.ListN.{length, getD}
+use Rattle.limits.specs.Limits.{vertexLimit, elementLimit, tetrahedronLimit, vertexWidth, tetrahedronWidth, elementWidth}
 use Rattle.laws.specs.Words.{gather}
 use Rattle.faults.specs.Refusals.{Verdict, accepted, refused, andThen}
 use Rattle.solids.specs.Solids.{Vertex, Tet}
-use Rattle.records.specs.Limits.{vertexLimit, elementLimit, tetrahedronLimit, vertexWidth, tetrahedronWidth}
-use Rattle.records.specs.Record.{width, asRecord}
+use Rattle.records.specs.Record.{asRecord}
 use Rattle.mesh.specs.Cutting.{cutOf}
 use Rattle.text.specs.declared.terms.Rooms.{Rooms}
 use Rattle.text.specs.File.{fileVerdict}
@@ -16,7 +16,7 @@ use Rattle.writing.specs.Written.{writtenFile, refusalLine}
 
 -- tables with room for every file, and for every cut
 abbrev pub rooms : Rooms
-rooms = record { vertices = vertexWidth * vertexLimit; elements = width * elementLimit }
+rooms = record { vertices = vertexWidth * vertexLimit; elements = elementWidth * elementLimit }
 
 abbrev pub cutRoom : ℕ
 cutRoom = tetrahedronWidth * tetrahedronLimit

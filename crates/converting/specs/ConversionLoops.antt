@@ -6,12 +6,12 @@ use mathlib.Core.List.{List, [], _∷_, _++_}
 use lib.Dec.{T}
 use lib.IntN.{ℤ, pos}
 use lib.ListN.{length, getD}
+use Rattle.limits.specs.Limits.{vertexLimit, tetrahedronLimit, vertexWidth, tetrahedronWidth}
 use Rattle.laws.specs.Lent.{laid}
 use Rattle.laws.specs.Words.{every}
 use Rattle.faults.specs.declared.Finding.the-variants.{Clean}
 use Rattle.faults.specs.Refusals.{Verdict, andThen}
 use Rattle.volume.specs.Volume.{inRange}
-use Rattle.records.specs.Limits.{vertexLimit, tetrahedronLimit, vertexWidth, tetrahedronWidth}
 use Rattle.records.specs.Record.{recordFinding}
 use Rattle.mesh.specs.Cutting.{cutOf}
 use Rattle.writing.specs.Written.{closed, vertexLine, elementLine, endLine, inRoom}

@@ -3,9 +3,9 @@ use Prim.Native.Nat.{ℕ, _+_, _*_}
 use mathlib.Core.Path.{_≡_}
 use mathlib.Core.List.{List, [], _∷_}
 use lib.ListN.{length}
+use Rattle.limits.specs.Limits.{vertexLimit, tetrahedronLimit}
 use Rattle.laws.specs.Lent.{laid}
 use Rattle.faults.specs.Refusals.{Verdict, accepted, refused, andThen, recordsOf, answerOf}
-use Rattle.records.specs.Limits.{vertexLimit, tetrahedronLimit}
 use Rattle.writing.specs.Written.{inRoom}
 use Rattle.converting.specs.declared.ConvertAnswer.{ConvertAnswer}
 use Rattle.converting.specs.declared.ConvertAnswer.the-variants.{Done, Refused}

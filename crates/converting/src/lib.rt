@@ -2,12 +2,15 @@
 // The program only reads its input, calls `convert` and, where that refuses, `writing::write_refusal`, and writes.
 mod output;
 
-use crate::output::TETRAHEDRON;
-use crate::output::VERTEX;
 use crate::output::put_mesh;
 use crate::output::store;
 use faults::Fault;
 use faults::Refusal;
+use limits::ELEMENT_NUMBERS;
+use limits::TETRAHEDRON_LIMIT;
+use limits::TETRAHEDRON_NUMBERS;
+use limits::VERTEX_LIMIT;
+use limits::VERTEX_NUMBERS;
 use mesh::CutAnswer;
 use mesh::cut_mesh;
 use text::ReadAnswer;
@@ -24,17 +27,7 @@ pub enum ConvertAnswer {
 }
 
 // How long the text of a conversion is at most: 4,096 vertex lines of 30 bytes, 6,144 lines of tetrahedra of 23, EN of 13.
-pub const LONGEST_OUTPUT: usize = 30 * 4096 + 23 * 6144 + 13;
-
-// How many numbers an element has.
-const ELEMENT: usize = 9;
-
-// Tables with room for every file, 4,096 vertices and 1,024 elements, and for every cut, 6,144 tetrahedra.
-const VERTEX_ROOM: usize = VERTEX * 4096;
-
-const ELEMENT_ROOM: usize = ELEMENT * 1024;
-
-const CUT_ROOM: usize = TETRAHEDRON * 6144;
+pub const LONGEST_OUTPUT: usize = 30 * VERTEX_LIMIT + 23 * TETRAHEDRON_LIMIT + 13;
 
 // The cut mesh as text: made whole before a byte of it is stored, so that ROOM stores nothing.
 fn write_cut(
@@ -72,7 +65,7 @@ fn cut_and_write(
     requires { ⌜ GoodVertices (now vertices) «vertex_count» ⌝ }
     ensures { λ r. ⌜ Left (cutVerdict (now (vertices .entry)) «vertex_count» (now (elements .entry)) «element_count» (length (now (output .entry)))) (now (output .entry)) r (now (output .exit)) ⌝ }
 {
-    let mut tetrahedra = [0u16; CUT_ROOM];
+    let mut tetrahedra = [0u16; TETRAHEDRON_NUMBERS];
     match cut_mesh(vertex_count, element_count, elements, &mut tetrahedra) {
         CutAnswer::Refused(refusal) => ConvertAnswer::Refused(refusal),
         CutAnswer::Done(counts) => {
@@ -87,8 +80,8 @@ fn cut_and_write(
 pub fn convert(input: &[u8], output: &mut [u8]) -> ConvertAnswer
     ensures { λ r. ⌜ ConvertDone (now (input .entry)) (now (output .entry)) r (now (output .exit)) ⌝ }
 {
-    let mut vertices = [0i32; VERTEX_ROOM];
-    let mut elements = [0u16; ELEMENT_ROOM];
+    let mut vertices = [0i32; VERTEX_NUMBERS];
+    let mut elements = [0u16; ELEMENT_NUMBERS];
     match read_mesh(input, &mut vertices, &mut elements) {
         ReadAnswer::Refused(refusal) => ConvertAnswer::Refused(refusal),
         ReadAnswer::Done(counts) => {

@@ -1,4 +1,6 @@
 // The text of a cut mesh, put from the front of lent memory: vertices, tetrahedra, EN.
+use limits::TETRAHEDRON_WIDTH;
+use limits::VERTEX_WIDTH;
 use writing::WriteAnswer;
 use writing::write_element;
 use writing::write_end;
@@ -6,16 +8,11 @@ use writing::write_vertex;
 ghost use mathlib.Core.Path.{_≡_};
 ghost use Prim.Native.Nat.{_+_, _*_, _≤_};
 ghost use lib.ListN.{length};
+ghost use Rattle.limits.specs.Limits.{vertexLimit, tetrahedronLimit};
 ghost use Rattle.laws.specs.Lent.{laid};
-ghost use Rattle.records.specs.Limits.{vertexLimit, tetrahedronLimit};
 ghost use Rattle.writing.specs.Written.{closed, endLine};
 ghost use Rattle.converting.specs.Converting.{longestOutput, longestVertex, longestTetrahedron, longestEnd};
 ghost use Rattle.converting.specs.ConversionLoops.{Put, lengthIn, vertexText, tetrahedronText, textTo, meshText, GoodVertices, GoodTetrahedra};
-
-// How many numbers a vertex and a tetrahedron have.
-pub const VERTEX: usize = 3;
-
-pub const TETRAHEDRON: usize = 4;
 
 // The length of what was written.
 fn length_in(answer: WriteAnswer) -> usize
@@ -33,7 +30,7 @@ fn put_vertex(vertices: &[i32], k: usize, out: &mut [u8]) -> usize
     requires { ⌜ longestVertex ≤ length (now out) ⌝ }
     ensures { λ r. ⌜ Put longestVertex (vertexText (now (vertices .entry)) k) (now (out .entry)) r (now (out .exit)) ⌝ }
 {
-    let at = VERTEX * k;
+    let at = VERTEX_WIDTH * k;
     let x = vertices[at];
     let y = vertices[at + 1];
     let z = vertices[at + 2];
@@ -62,7 +59,7 @@ fn put_tetrahedron(tetrahedra: &[u16], k: usize, out: &mut [u8]) -> usize
     requires { ⌜ longestTetrahedron ≤ length (now out) ⌝ }
     ensures { λ r. ⌜ Put longestTetrahedron (tetrahedronText (now (tetrahedra .entry)) k) (now (out .entry)) r (now (out .exit)) ⌝ }
 {
-    let at = TETRAHEDRON * k;
+    let at = TETRAHEDRON_WIDTH * k;
     let a = tetrahedra[at];
     let b = tetrahedra[at + 1];
     let c = tetrahedra[at + 2];

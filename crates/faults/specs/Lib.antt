@@ -1,2 +1,3 @@
--- The page's section "Refusal numbers".
+-- The page's section "Refusal numbers", and what the place of a refusal means.
 pub mod Refusals
+pub mod Spots

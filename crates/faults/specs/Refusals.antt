@@ -7,6 +7,8 @@ use Prim.Native.Nat.{ℕ}
 use Rattle.faults.specs.declared.Fault.{Fault}
 use Rattle.faults.specs.declared.Fault.the-variants.{Long, Mark, Shape, Comma, Number, Range, Many, Vertex, Room, End, Kind, Spare, Repeat, Join}
 use Rattle.faults.specs.declared.Refusal.{Refusal}
+use Rattle.faults.specs.declared.Ruling.{Ruling}
+use Rattle.faults.specs.declared.Ruling.the-variants as ruling
 
 -- 0 DONE: accepted
 abbrev pub done : ℕ
@@ -59,6 +61,11 @@ module _ {A : Type 0} where
   -- refused where the test holds, else what comes next
   abbrev pub refuseIf : Bool → Refusal → Verdict A → Verdict A
   refuseIf b r next = cond b (refused r) next
+
+-- what judging a part comes to, where its verdict is this one
+abbrev pub ruled : {A : Type 0} → Verdict A → Ruling
+ruled (accepted v) = ruling.Passed
+ruled (refused r) = ruling.Refused r
 
 module _ {A B : Type 0} where
   -- what comes after an acceptance; a refusal stays as it is

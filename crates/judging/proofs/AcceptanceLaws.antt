@@ -8,6 +8,7 @@ use native.Mathlib.Omega.{arith}
 use lib.Dec.{T, eqb, ltb}
 use lib.ListN.{length}
 use borrow.Author.Tests.{eqb-true, eqb-false, le-ltb}
+use Rattle.limits.specs.Limits.{elementLimit, elementWidth}
 use Rattle.laws.specs.Words.{every}
 use Rattle.laws.proofs.TestLaws.{and-left, and-right, and-both, T-true}
 use Rattle.laws.proofs.EveryLaws.{every-front, every-rest}
@@ -16,8 +17,7 @@ use Rattle.faults.specs.declared.Finding.the-variants.{Clean}
 use Rattle.faults.specs.Refusals.{accepted}
 use Rattle.solids.specs.Solids.{Element}
 use Rattle.solids.specs.Fit.{proper, fits, fitting}
-use Rattle.records.specs.Record.{width, recordFinding, recordCount, recordAt, elementAt, firstElements}
-use Rattle.records.specs.Limits.{elementLimit}
+use Rattle.records.specs.Record.{recordFinding, recordCount, recordAt, elementAt, firstElements}
 use Rattle.judging.specs.Judge.{isFault, badRecord, pairFits, misfit, badElement, judged}
 use Rattle.judging.specs.Acceptance.{Acceptable}
 use Rattle.records.proofs.Theorems.{clean-whole, first-each, first-proper}
@@ -81,7 +81,7 @@ accepted-acceptable v n t es e = record {
 }
 
 -- records without a fault hold proper elements
-pub clean-proper : (v n : ℕ) (t : List ℕ) → n ≤ elementLimit → width * n ≤ length t → ((k : ℕ) → k < n → recordFinding v (recordAt t k) ≡ Clean)
+pub clean-proper : (v n : ℕ) (t : List ℕ) → n ≤ elementLimit → elementWidth * n ≤ length t → ((k : ℕ) → k < n → recordFinding v (recordAt t k) ≡ Clean)
     → T (every proper (firstElements t n))
 clean-proper v n t few long clean =
     first-proper t n (record { few = few; long = long; whole = λ k h. clean-whole v (recordAt t k) (clean k h) })

@@ -9,6 +9,7 @@ use native.Mathlib.Omega.{arith}
 use lib.Dec.{T, eqb, ltb}
 use lib.ListN.{length}
 use borrow.Author.Tests.{ltb-false}
+use Rattle.limits.specs.Limits.{elementLimit, vertexLimit, elementWidth}
 use Rattle.laws.specs.Words.{every, some, distinct}
 use Rattle.faults.specs.declared.Fault.the-variants as fault
 use Rattle.faults.specs.declared.Finding.the-variants.{Clean, Found}
@@ -16,9 +17,8 @@ use Rattle.faults.specs.declared.Refusal.{Refusal}
 use Rattle.faults.specs.Refusals.{numberOf, Verdict, accepted, refused, refuse, refusePair, refuseIf}
 use Rattle.solids.specs.Solids.{Element}
 use Rattle.solids.specs.Fit.{proper, fitting}
-use Rattle.records.specs.Record.{width, kindOf, usedOf, spareOf, isKind, strayVertex, notZero, recordFinding, recordAt, firstElements}
+use Rattle.records.specs.Record.{kindOf, usedOf, spareOf, isKind, strayVertex, notZero, recordFinding, recordAt, firstElements}
 use Rattle.records.proofs.Theorems.{first-length, first-proper}
-use Rattle.records.specs.Limits.{elementLimit, vertexLimit}
 use Rattle.judging.specs.Judge.{faultIn, badRecord, badElement, misfit, judged}
 use Rattle.judging.specs.JudgeLoops.{pairsJudged, Recorded}
 use Rattle.judging.proofs.JudgeLaws.{record-clean, records-whole}
@@ -56,7 +56,7 @@ early r h (refused x) l e =
 found-early : (limit : ℕ) (r : List ℕ) → numberOf (faultIn (recordFinding limit r)) < 14
 unfolding recordFinding
 found-early limit r =
-    go (not (eqb (length r) width && isKind (kindOf r))) (some (strayVertex limit) (usedOf r)) (some notZero (spareOf r)) (not (distinct (usedOf r)))
+    go (not (eqb (length r) elementWidth && isKind (kindOf r))) (some (strayVertex limit) (usedOf r)) (some notZero (spareOf r)) (not (distinct (usedOf r)))
   where
     go : (a b c d : Bool)
         → numberOf (faultIn (cond a (Found fault.Kind) (cond b (Found fault.Vertex) (cond c (Found fault.Spare) (cond d (Found fault.Repeat) Clean))))) < 14
@@ -76,7 +76,7 @@ module _ (v n : ℕ) (t : List ℕ) where
 
   lengths : Verdict (List Element)
   unfolding records
-  lengths = refuseIf (ltb (length t) (width * n)) (refuse fault.Room 0) records
+  lengths = refuseIf (ltb (length t) (elementWidth * n)) (refuse fault.Room 0) records
 
   elements : Verdict (List Element)
   unfolding lengths
@@ -91,9 +91,9 @@ module _ (v n : ℕ) (t : List ℕ) where
     unfolding elements
     p₂ = passed (ltb elementLimit n) (refuse fault.Many 0) lengths y (early (refuse fault.Many 0) (omega arith) y late) (p₁ .rest)
 
-    p₃ : Passed (ltb (length t) (width * n)) records y
+    p₃ : Passed (ltb (length t) (elementWidth * n)) records y
     unfolding lengths
-    p₃ = passed (ltb (length t) (width * n)) (refuse fault.Room 0) records y (early (refuse fault.Room 0) (omega arith) y late) (p₂ .rest)
+    p₃ = passed (ltb (length t) (elementWidth * n)) (refuse fault.Room 0) records y (early (refuse fault.Room 0) (omega arith) y late) (p₂ .rest)
 
     p₄ : Passed (ltb 0 k) (pairsJudged t n) y
     unfolding records
@@ -110,7 +110,7 @@ module _ (v n : ℕ) (t : List ℕ) where
     late-recorded = record {
       verdict = e ∙ sym (p₄ .rest);
       few = ltb-false vertexLimit v (p₁ .no);
-      table = records-whole v t n none (ltb-false elementLimit n (p₂ .no)) (ltb-false (length t) (width * n) (p₃ .no));
+      table = records-whole v t n none (ltb-false elementLimit n (p₂ .no)) (ltb-false (length t) (elementWidth * n) (p₃ .no));
       clean = none;
     }
 
@@ -140,7 +140,7 @@ module _ (v n : ℕ) (t : List ℕ) where
     pub accepted-count : n ≤ elementLimit
     accepted-count = accepted-recorded .table .few
 
-    pub accepted-long : width * n ≤ length t
+    pub accepted-long : elementWidth * n ≤ length t
     accepted-long = accepted-recorded .table .long
 
     pub accepted-clean : (k : ℕ) → k < n → recordFinding v (recordAt t k) ≡ Clean

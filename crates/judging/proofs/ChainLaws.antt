@@ -11,18 +11,18 @@ use lib.Dec.{T, eqb, ltb, leb}
 use lib.ListN.{length, getD, take, drop, set, replicate, length-set, length-replicate}
 use lib.Seq.{getD-take, getD-drop, getD-set-same, getD-set-other}
 use borrow.Author.Tests.{eqb-true, eqb-false, eq-eqb, ne-eqb, ltb-true, ltb-false, lt-ltb, leb-true, leb-false, le-leb, not-false}
+use Rattle.limits.specs.Limits.{elementLimit, vertexLimit, elementWidth}
 use Rattle.laws.specs.Words.{keep, among, distinct}
 use Rattle.laws.specs.Searches.{least}
-use Rattle.laws.proofs.SearchLaws.{least-all}
+use Rattle.laws.proofs.SearchLaws.{least-all, least-none, least-most}
 use Rattle.laws.proofs.TestLaws.{T-true, true-T, and-left, and-right, distinct-cons}
 use Rattle.laws.proofs.EveryLaws.{every-index, every-append, every-implies}
 use Rattle.solids.specs.Fit.{common, fits}
 use Rattle.solids.proofs.SetLaws.{not-in}
 use Rattle.solids.proofs.FaceFacts.{at-among}
-use Rattle.records.specs.Record.{width, kindOf, numbersOf, usedOf, spareOf, recordAt, elementOf, elementAt}
-use Rattle.records.specs.Loops.{isNumber, Faultless, WholeTable}
+use Rattle.records.specs.Record.{kindOf, numbersOf, usedOf, spareOf, recordAt, elementOf, elementAt}
+use Rattle.records.specs.WholeRecords.{isNumber, Faultless, WholeTable}
 use Rattle.records.proofs.RecordLaws.{used-length, kind-small, record-parts, clean-faultless}
-use Rattle.records.specs.Limits.{elementLimit, vertexLimit}
 use Rattle.judging.specs.Judge.{badRecord, badElement, pairFits, misfit}
 use Rattle.judging.proofs.JudgeLaws.{record-clean}
 use Rattle.judging.specs.JudgeLoops.{Recorded}
@@ -74,25 +74,25 @@ module _ (p : ℕ → Bool) where
 -- ---- what stands at a place
 
 module _ (t : List ℕ) (v x : ℕ) where
-  pub holds-place : holds t v x ≡ true → 0 < x % width
+  pub holds-place : holds t v x ≡ true → 0 < x % elementWidth
   unfolding holds
-  holds-place e = ltb-true 0 (x % width) (T-true _ (and-left (ltb 0 (x % width)) (eqb (getD t x 0) v) (true-T e)))
+  holds-place e = ltb-true 0 (x % elementWidth) (T-true _ (and-left (ltb 0 (x % elementWidth)) (eqb (getD t x 0) v) (true-T e)))
 
   pub holds-vertex : holds t v x ≡ true → getD t x 0 ≡ v
   unfolding holds
-  holds-vertex e = eqb-true (getD t x 0) v (T-true _ (and-right (ltb 0 (x % width)) (eqb (getD t x 0) v) (true-T e)))
+  holds-vertex e = eqb-true (getD t x 0) v (T-true _ (and-right (ltb 0 (x % elementWidth)) (eqb (getD t x 0) v) (true-T e)))
 
-  pub place-holds : 0 < x % width → getD t x 0 ≡ v → holds t v x ≡ true
+  pub place-holds : 0 < x % elementWidth → getD t x 0 ≡ v → holds t v x ≡ true
   unfolding holds
-  place-holds h e = rw (lt-ltb 0 (x % width) h, eq-eqb (getD t x 0) v e)
+  place-holds h e = rw (lt-ltb 0 (x % elementWidth) h, eq-eqb (getD t x 0) v e)
 
-  other-holds : 0 < x % width → (getD t x 0 ≡ v → ⊥) → holds t v x ≡ false
+  other-holds : 0 < x % elementWidth → (getD t x 0 ≡ v → ⊥) → holds t v x ≡ false
   unfolding holds
-  other-holds h e = rw (lt-ltb 0 (x % width) h, ne-eqb (getD t x 0) v e)
+  other-holds h e = rw (lt-ltb 0 (x % elementWidth) h, ne-eqb (getD t x 0) v e)
 
-kind-holds : (t : List ℕ) (v j : ℕ) → holds t v (width * j) ≡ false
+kind-holds : (t : List ℕ) (v j : ℕ) → holds t v (elementWidth * j) ≡ false
 unfolding holds
-kind-holds t v j = let e : (width * j) % width ≡ 0 = omega arith in rw e
+kind-holds t v j = let e : (elementWidth * j) % elementWidth ≡ 0 = omega arith in rw e
 
 -- ---- records without a fault
 
@@ -141,20 +141,20 @@ module _ (limit : ℕ) (few : limit ≤ vertexLimit) where
   unfolding recordAt
   clean-numbered t n w none = record { table = w; low = λ x h p. leb-true (getD t x 0) vertexLimit (T-true _ (at-place x h p)) }
     where
-      here : (x a : ℕ) → x % width ≡ suc a → getD (recordAt t (x / width)) (suc a) 0 ≡ getD t x 0
+      here : (x a : ℕ) → x % elementWidth ≡ suc a → getD (recordAt t (x / elementWidth)) (suc a) 0 ≡ getD t x 0
       here x a e =
-          getD-take width (drop (width * (x / width)) t) (suc a) 0 (omega arith)
-          ∙ getD-drop (width * (x / width)) t (suc a) 0
+          getD-take elementWidth (drop (elementWidth * (x / elementWidth)) t) (suc a) 0 (omega arith)
+          ∙ getD-drop (elementWidth * (x / elementWidth)) t (suc a) 0
           ∙ ap (λ (m : ℕ). getD t m 0) (omega arith)
 
-      at-place : (x : ℕ) → x < width * n → 0 < x % width → T (lowNumber (getD t x 0))
-      at-place x h p = go (x % width) refl p
+      at-place : (x : ℕ) → x < elementWidth * n → 0 < x % elementWidth → T (lowNumber (getD t x 0))
+      at-place x h p = go (x % elementWidth) refl p
         where
-          go : (m : ℕ) → x % width ≡ m → 0 < m → T (lowNumber (getD t x 0))
+          go : (m : ℕ) → x % elementWidth ≡ m → 0 < m → T (lowNumber (getD t x 0))
           go zero e l = absurd (omega arith)
           go (suc a) e l =
               subst (λ (v : ℕ). T (lowNumber v)) (here x a e)
-              (faultless-low (recordAt t (x / width)) (clean-faultless limit (recordAt t (x / width)) (record-clean limit t n none (x / width) (omega arith))) a (omega arith))
+              (faultless-low (recordAt t (x / elementWidth)) (clean-faultless limit (recordAt t (x / elementWidth)) (record-clean limit t n none (x / elementWidth) (omega arith))) a (omega arith))
 
 -- the pairs of a table may be judged once its records are
 pub recorded-numbered : (v n : ℕ) (t : List ℕ) → Recorded v n t → Numbered t n
@@ -167,7 +167,7 @@ zeros zero i = refl
 zeros (suc n) zero = refl
 zeros (suc n) (suc i) = zeros n i
 
-pub filed-start : (t : List ℕ) → Filed t (width * 0) (replicate 4097 0) (replicate 9216 0)
+pub filed-start : (t : List ℕ) → Filed t (elementWidth * 0) (replicate 4097 0) (replicate 9216 0)
 unfolding latest
 filed-start t = record {
   wide = length-replicate {A = ℕ} 4097 0;
@@ -177,21 +177,21 @@ filed-start t = record {
 }
 
 -- a kind is passed
-pub filed-kind : (t : List ℕ) (j : ℕ) {heads links : List ℕ} → Filed t (width * j) heads links → Filed t (width * j + 1) heads links
+pub filed-kind : (t : List ℕ) (j : ℕ) {heads links : List ℕ} → Filed t (elementWidth * j) heads links → Filed t (elementWidth * j + 1) heads links
 unfolding latest
 filed-kind t j w = record {
   wide = w .wide;
   long = w .long;
-  first = λ v h. w .first v h ∙ rw (add-one (width * j), kind-holds t v j);
+  first = λ v h. w .first v h ∙ rw (add-one (elementWidth * j), kind-holds t v j);
   next = λ x h l. w .next x (below x h l) l;
 }
   where
-    below : (x : ℕ) → x < width * j + 1 → 0 < x % width → x < width * j
+    below : (x : ℕ) → x < elementWidth * j + 1 → 0 < x % elementWidth → x < elementWidth * j
     below x h l = omega arith
 
 -- a place is filed
-module _ (t : List ℕ) (x : ℕ) {heads links : List ℕ} (w : Filed t x heads links) (place : 0 < x % width) (v : ℕ) (this : v ≡ getD t x 0)
-    (low : v ≤ vertexLimit) (early : x < width * elementLimit)
+module _ (t : List ℕ) (x : ℕ) {heads links : List ℕ} (w : Filed t x heads links) (place : 0 < x % elementWidth) (v : ℕ) (this : v ≡ getD t x 0)
+    (low : v ≤ vertexLimit) (early : x < elementWidth * elementLimit)
   where
     firsts : (u : ℕ) → u ≤ vertexLimit → getD (set heads v x) u 0 ≡ latest (holds t u) (x + 1)
     unfolding latest
@@ -205,7 +205,7 @@ module _ (t : List ℕ) (x : ℕ) {heads links : List ℕ} (w : Filed t x heads 
             let q = eqb-false u v e in
             rw (other-holds t u x place (λ r. q (sym (this ∙ r)))) (getD-set-other heads v u x 0 q ∙ w .first u h)
 
-    nexts : (y : ℕ) → y < x + 1 → 0 < y % width → getD (set links x (getD heads v 0)) y 0 ≡ latest (holds t (getD t y 0)) y
+    nexts : (y : ℕ) → y < x + 1 → 0 < y % elementWidth → getD (set links x (getD heads v 0)) y 0 ≡ latest (holds t (getD t y 0)) y
     nexts y h l = go (eqb y x) refl
       where
         go : (b : Bool) → eqb y x ≡ b → getD (set links x (getD heads v 0)) y 0 ≡ latest (holds t (getD t y 0)) y
@@ -296,28 +296,28 @@ module _ (t : List ℕ) (i j : ℕ) (marks : List ℕ) (m : Meeting t i j marks)
 
 -- the places of v above x, which is one of them or 0, are those of elements that are marked, and fit where they were marked before
 pub record On (t : List ℕ) (j v : ℕ) (old new : List ℕ) (x : ℕ) : Type 0 where
-  pub less : 0 < x → x < width * j
+  pub less : 0 < x → x < elementWidth * j
   pub here : 0 < x → holds t v x ≡ true
   pub grown : Grown old new
-  pub marked : (y : ℕ) → x < y → y < width * j → holds t v y ≡ true → 0 < getD new (y / width) 0
-  pub again : (y : ℕ) → x < y → y < width * j → holds t v y ≡ true → 0 < getD old (y / width) 0 → pairFits t (y / width) j ≡ true
+  pub marked : (y : ℕ) → x < y → y < elementWidth * j → holds t v y ≡ true → 0 < getD new (y / elementWidth) 0
+  pub again : (y : ℕ) → x < y → y < elementWidth * j → holds t v y ≡ true → 0 < getD old (y / elementWidth) 0 → pairFits t (y / elementWidth) j ≡ true
 
 module _ (t : List ℕ) (j v : ℕ) (old : List ℕ) where
-  pub on-start : (x : ℕ) → x ≡ latest (holds t v) (width * j) → On t j v old old x
+  pub on-start : (x : ℕ) → x ≡ latest (holds t v) (elementWidth * j) → On t j v old old x
   on-start x e = rw e (record {
-    less = λ h. latest-less (holds t v) (width * j) (let l = latest-high (holds t v) (width * j) in omega arith);
-    here = latest-passes (holds t v) (width * j);
+    less = λ h. latest-less (holds t v) (elementWidth * j) (let l = latest-high (holds t v) (elementWidth * j) in omega arith);
+    here = latest-passes (holds t v) (elementWidth * j);
     grown = λ k. le-refl (getD old k 0);
-    marked = λ y h l p. absurd (let k = latest-above (holds t v) (width * j) y l p in omega arith);
-    again = λ y h l p. absurd (let k = latest-above (holds t v) (width * j) y l p in omega arith);
+    marked = λ y h l p. absurd (let k = latest-above (holds t v) (elementWidth * j) y l p in omega arith);
+    again = λ y h l p. absurd (let k = latest-above (holds t v) (elementWidth * j) y l p in omega arith);
   })
 
-  module _ (x y : ℕ) {marks new : List ℕ} (w : On t j v old marks x) (h : 0 < x) {r : Bool} (m : Met t (x / width) j marks new r) (q : r ≡ true)
+  module _ (x y : ℕ) {marks new : List ℕ} (w : On t j v old marks x) (h : 0 < x) {r : Bool} (m : Met t (x / elementWidth) j marks new r) (q : r ≡ true)
       (e : y ≡ latest (holds t v) x)
     where
       -- a place above the next one is x, or above x
-      above : {P : ℕ → Type 0} → P x → ((z : ℕ) → x < z → z < width * j → holds t v z ≡ true → P z)
-          → (z : ℕ) → latest (holds t v) x < z → z < width * j → holds t v z ≡ true → P z
+      above : {P : ℕ → Type 0} → P x → ((z : ℕ) → x < z → z < elementWidth * j → holds t v z ≡ true → P z)
+          → (z : ℕ) → latest (holds t v) x < z → z < elementWidth * j → holds t v z ≡ true → P z
       above {P} this rest z l n p = go (ltb z x) (eqb z x) refl refl
         where
           go : (b d : Bool) → ltb z x ≡ b → eqb z x ≡ d → P z
@@ -330,8 +330,8 @@ module _ (t : List ℕ) (j v : ℕ) (old : List ℕ) where
         less = λ l. (let a = latest-less (holds t v) x h in let b = w .less h in omega arith);
         here = latest-passes (holds t v) x;
         grown = λ k. le-trans (w .grown k) (m .grown k);
-        marked = above {P = λ z. 0 < getD new (z / width) 0} (m .marked q) (λ z l n p. le-trans (w .marked z l n p) (m .grown (z / width)));
-        again = above {P = λ z. 0 < getD old (z / width) 0 → pairFits t (z / width) j ≡ true} (λ o. m .again q (le-trans o (w .grown (x / width)))) (w .again);
+        marked = above {P = λ z. 0 < getD new (z / elementWidth) 0} (m .marked q) (λ z l n p. le-trans (w .marked z l n p) (m .grown (z / elementWidth)));
+        again = above {P = λ z. 0 < getD old (z / elementWidth) 0 → pairFits t (z / elementWidth) j ≡ true} (λ o. m .again q (le-trans o (w .grown (x / elementWidth)))) (w .again);
       })
 
 -- ---- one misfit, or none
@@ -344,24 +344,9 @@ misfit-some t i j h e = go (misfit t j) refl
     go zero z = absurd (subst T (sym (not-false (pairFits t i j) (least-all (λ k. not (pairFits t k j)) j z i h)) ∙ e) tt)
     go (suc m) z = omega arith
 
-least-high : (p : ℕ → Bool) (n : ℕ) → least p n ≤ n
-unfolding least
-least-high p zero = zero-le
-least-high p (suc n) = go (eqb (least p n) 0) (p n) (least-high p n)
-  where
-    go : (b d : Bool) → least p n ≤ n → cond b (cond d (suc n) 0) (least p n) ≤ suc n
-    go true true h = omega arith
-    go true false h = omega arith
-    go false d h = omega arith
-
 pub bad-high : (t : List ℕ) (n : ℕ) → badElement t n ≤ n
 unfolding badElement
-bad-high t n = least-high (λ j. ltb 0 (misfit t j)) n
-
-least-none : (p : ℕ → Bool) (n : ℕ) → ((k : ℕ) → k < n → p k ≡ false) → least p n ≡ 0
-unfolding least
-least-none p zero h = refl
-least-none p (suc n) h = rw (least-none p n (λ k l. h k (omega arith)), h n (omega arith))
+bad-high t n = least-most (λ j. ltb 0 (misfit t j)) n
 
 -- ---- elements with no vertex in common
 
@@ -411,15 +396,15 @@ apart-getD (v ∷ l) (suc a) zero d h m e = omega arith
 apart-getD (v ∷ l) (suc a) (suc c) d h m e = apart-getD l a c (distinct-cons v l d .1) (omega arith) (omega arith) e
 
 -- a corner of element i stands at a place of the table
-used-place : (t : List ℕ) (i a : ℕ) → a < kindOf (recordAt t i) → a < 8 → getD (usedOf (recordAt t i)) a 0 ≡ getD t (width * i + (a + 1)) 0
+used-place : (t : List ℕ) (i a : ℕ) → a < kindOf (recordAt t i) → a < 8 → getD (usedOf (recordAt t i)) a 0 ≡ getD t (elementWidth * i + (a + 1)) 0
 unfolding usedOf numbersOf recordAt
 used-place t i a h l =
-    getD-take (kindOf (recordAt t i)) (take 8 (drop 1 (take width (drop (width * i) t)))) a 0 h
-    ∙ getD-take 8 (drop 1 (take width (drop (width * i) t))) a 0 l
-    ∙ getD-drop 1 (take width (drop (width * i) t)) a 0
-    ∙ getD-take width (drop (width * i) t) (1 + a) 0 (omega arith)
-    ∙ getD-drop (width * i) t (1 + a) 0
-    ∙ ap (λ (n : ℕ). getD t (width * i + n) 0) (omega arith)
+    getD-take (kindOf (recordAt t i)) (take 8 (drop 1 (take elementWidth (drop (elementWidth * i) t)))) a 0 h
+    ∙ getD-take 8 (drop 1 (take elementWidth (drop (elementWidth * i) t))) a 0 l
+    ∙ getD-drop 1 (take elementWidth (drop (elementWidth * i) t)) a 0
+    ∙ getD-take elementWidth (drop (elementWidth * i) t) (1 + a) 0 (omega arith)
+    ∙ getD-drop (elementWidth * i) t (1 + a) 0
+    ∙ ap (λ (n : ℕ). getD t (elementWidth * i + n) 0) (omega arith)
 
 -- two elements that do not fit have two vertices in common
 module _ (t : List ℕ) (i j : ℕ) (e : pairFits t i j ≡ false) where
@@ -433,8 +418,8 @@ module _ (t : List ℕ) (i j : ℕ) (e : pairFits t i j ≡ false) where
 
 -- where element j fits each element that holds two of its vertices, it fits each element before it
 module _ (t : List ℕ) (j : ℕ) (w : WholeTable t (j + 1))
-    (all : (q r : ℕ) → 0 < q → q < r → r ≤ kindOf (recordAt t j) → (x y : ℕ) → x < width * j → y < width * j → x / width ≡ y / width
-    → holds t (getD t (width * j + q) 0) x ≡ true → holds t (getD t (width * j + r) 0) y ≡ true → pairFits t (y / width) j ≡ true)
+    (all : (q r : ℕ) → 0 < q → q < r → r ≤ kindOf (recordAt t j) → (x y : ℕ) → x < elementWidth * j → y < elementWidth * j → x / elementWidth ≡ y / elementWidth
+    → holds t (getD t (elementWidth * j + q) 0) x ≡ true → holds t (getD t (elementWidth * j + r) 0) y ≡ true → pairFits t (y / elementWidth) j ≡ true)
   where
     -- a corner of element i that stands at a corner of element j
     record Common (i a b : ℕ) : Type 0 where
@@ -445,9 +430,9 @@ module _ (t : List ℕ) (j : ℕ) (w : WholeTable t (j + 1))
     -- its place in the table
     record Found (i a b : ℕ) : Type 0 where
       low : b < kindOf (recordAt t j)
-      early : width * i + (a + 1) < width * j
-      whose : (width * i + (a + 1)) / width ≡ i
-      stands : holds t (getD t (width * j + (b + 1)) 0) (width * i + (a + 1)) ≡ true
+      early : elementWidth * i + (a + 1) < elementWidth * j
+      whose : (elementWidth * i + (a + 1)) / elementWidth ≡ i
+      stands : holds t (getD t (elementWidth * j + (b + 1)) 0) (elementWidth * i + (a + 1)) ≡ true
 
     found : (i a b : ℕ) → i < j → Common i a b → Found i a b
     found i a b h m =
@@ -463,7 +448,7 @@ module _ (t : List ℕ) (j : ℕ) (w : WholeTable t (j + 1))
           low = omega arith;
           early = omega arith;
           whose = omega arith;
-          stands = place-holds t (getD t (width * j + (b + 1)) 0) (width * i + (a + 1)) (omega arith) (sym here ∙ m .same ∙ there);
+          stands = place-holds t (getD t (elementWidth * j + (b + 1)) 0) (elementWidth * i + (a + 1)) (omega arith) (sym here ∙ m .same ∙ there);
         }
 
     -- two corners of element i that stand at corners of element j, the first at the lower place
@@ -473,7 +458,7 @@ module _ (t : List ℕ) (j : ℕ) (w : WholeTable t (j + 1))
         let g = found i c d h n in
         let z = g .low in
         rw (g .whose) at
-        (all (b + 1) (d + 1) (omega arith) (omega arith) (omega arith) (width * i + (a + 1)) (width * i + (c + 1)) (f .early) (g .early) (f .whose ∙ sym (g .whose)) (f .stands) (g .stands))
+        (all (b + 1) (d + 1) (omega arith) (omega arith) (omega arith) (elementWidth * i + (a + 1)) (elementWidth * i + (c + 1)) (f .early) (g .early) (f .whose ∙ sym (g .whose)) (f .stands) (g .stands))
 
     met : (i a b c d : ℕ) → i < j → a < c → Common i a b → Common i c d → pairFits t i j ≡ true
     met i a b c d h l m n = go (ltb b d) (ltb d b) refl refl

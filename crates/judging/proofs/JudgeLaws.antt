@@ -6,14 +6,14 @@ use mathlib.Core.List.{List}
 use Prim.Native.Nat.{ℕ, _*_, _≤_, _<_}
 use lib.Dec.{T}
 use lib.ListN.{length}
+use Rattle.limits.specs.Limits.{elementLimit, elementWidth}
 use Rattle.laws.specs.Words.{every}
 use Rattle.laws.proofs.SearchLaws.{least-all}
 use Rattle.faults.specs.declared.Finding.{Finding}
 use Rattle.faults.specs.declared.Finding.the-variants.{Clean, Found}
-use Rattle.records.specs.Record.{width, usedOf, recordFinding, recordAt}
-use Rattle.records.specs.Loops.{isNumber, WholeTable}
+use Rattle.records.specs.Record.{usedOf, recordFinding, recordAt}
+use Rattle.records.specs.WholeRecords.{isNumber, WholeTable}
 use Rattle.records.proofs.Theorems.{clean-whole, clean-faultless}
-use Rattle.records.specs.Limits.{elementLimit}
 use Rattle.judging.specs.Judge.{isFault, badRecord}
 
 -- a finding that is no fault is clean
@@ -27,7 +27,7 @@ module _ (limit : ℕ) (t : List ℕ) (n : ℕ) (none : badRecord limit t n ≡ 
   record-clean k h =
       no-fault (recordFinding limit (recordAt t k)) (least-all (λ j. isFault (recordFinding limit (recordAt t j))) n none k h)
 
-  pub records-whole : n ≤ elementLimit → width * n ≤ length t → WholeTable t n
+  pub records-whole : n ≤ elementLimit → elementWidth * n ≤ length t → WholeTable t n
   records-whole few long = record {
     few = few;
     long = long;

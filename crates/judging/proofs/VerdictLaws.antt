@@ -9,14 +9,14 @@ use native.Mathlib.Omega.{arith}
 use lib.Dec.{ltb}
 use lib.ListN.{length}
 use borrow.Author.Tests.{lt-ltb, le-ltb}
+use Rattle.limits.specs.Limits.{elementLimit, vertexLimit, elementWidth}
 use Rattle.faults.specs.declared.Fault.{Fault}
 use Rattle.faults.specs.declared.Fault.the-variants.{Many, Room, Join}
 use Rattle.faults.specs.declared.Finding.{Finding}
 use Rattle.faults.specs.declared.Refusal.{Refusal}
 use Rattle.faults.specs.Refusals.{Verdict, accepted, refused, refuse, refusePair, refuseIf}
 use Rattle.solids.specs.Solids.{Element}
-use Rattle.records.specs.Record.{width, recordFinding, recordCount, recordAt, firstElements}
-use Rattle.records.specs.Limits.{elementLimit, vertexLimit}
+use Rattle.records.specs.Record.{recordFinding, recordCount, recordAt, firstElements}
 use Rattle.judging.specs.declared.JudgeAnswer.{JudgeAnswer}
 use Rattle.judging.specs.declared.JudgeAnswer.the-variants.{Refused}
 use Rattle.judging.specs.Judge.{faultIn, badRecord, badElement, misfit, judged}
@@ -53,22 +53,22 @@ module _ (v n : ℕ) (t : List ℕ) where
     module _ (b : n ≤ elementLimit) where
       pub too-short : recordCount t < n → judged v n t ≡ refused (refuse Room 0)
       unfolding judged recordCount
-      too-short h = rw (le-ltb vertexLimit v a, le-ltb elementLimit n b, lt-ltb (length t) (width * n) (omega arith))
+      too-short h = rw (le-ltb vertexLimit v a, le-ltb elementLimit n b, lt-ltb (length t) (elementWidth * n) (omega arith))
 
       module _ (c : n ≤ recordCount t) where
-        long : width * n ≤ length t
+        long : elementWidth * n ≤ length t
         unfolding recordCount
         long = omega arith
 
         pub bad-record : (k : ℕ) → k ≡ badRecord v t n → 0 < k → judged v n t ≡ refused (refuse (faultIn (recordFinding v (recordAt t (pred k)))) k)
         unfolding judged
         bad-record k e h =
-            rw (le-ltb vertexLimit v a, le-ltb elementLimit n b, le-ltb (length t) (width * n) long, ← e, lt-ltb 0 k h)
+            rw (le-ltb vertexLimit v a, le-ltb elementLimit n b, le-ltb (length t) (elementWidth * n) long, ← e, lt-ltb 0 k h)
 
         pub all-clean : badRecord v t n ≡ 0 → Recorded v n t
         unfolding judged pairsJudged
         all-clean d = record {
-          verdict = rw (le-ltb vertexLimit v a, le-ltb elementLimit n b, le-ltb (length t) (width * n) long, d);
+          verdict = rw (le-ltb vertexLimit v a, le-ltb elementLimit n b, le-ltb (length t) (elementWidth * n) long, d);
           few = a;
           table = records-whole v t n d b long;
           clean = d;

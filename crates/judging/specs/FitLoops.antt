@@ -5,10 +5,9 @@ use mathlib.Core.List.{List, [], _∷_, map}
 use Prim.Native.Nat.{ℕ, zero, suc, _+_, _*_, _/_, _%_, _≤_, _<_}
 use lib.Dec.{T, eqb, ltb}
 use lib.ListN.{length, getD, take}
+use Rattle.limits.specs.Limits.{elementLimit, vertexLimit, elementWidth}
 use Rattle.laws.specs.Words.{keep, some, gather, among}
-use Rattle.records.specs.Record.{width}
-use Rattle.records.specs.Limits.{elementLimit, vertexLimit}
-use Rattle.records.specs.Loops.{Whole, WholeTable}
+use Rattle.records.specs.WholeRecords.{Whole, WholeTable}
 use Rattle.judging.specs.Judge.{pairFits, misfit}
 use Rattle.solids.specs.Solids.{Vertex, Place, Face, three, four, element, faces, edgesOf, ends}
 use Rattle.solids.specs.declared.Solid.{Solid}
@@ -71,11 +70,11 @@ pub record Ends (u v : Vertex) (s : Solid) (vs : List Vertex) : Type 0 where
 -- n whole records stand in the table, and each vertex number is at most 4,096
 pub record Numbered (t : List ℕ) (n : ℕ) : Type 0 where
   pub table : WholeTable t n
-  pub low : (x : ℕ) → x < width * n → 0 < x % width → getD t x 0 ≤ vertexLimit
+  pub low : (x : ℕ) → x < elementWidth * n → 0 < x % elementWidth → getD t x 0 ≤ vertexLimit
 
 -- index x of a table is a place and no kind, and the vertex v stands there
 unfoldable pub holds : List ℕ → ℕ → ℕ → Bool
-holds t v x = ltb 0 (x % width) && eqb (getD t x 0) v
+holds t v x = ltb 0 (x % elementWidth) && eqb (getD t x 0) v
 
 -- the greatest number below m that passes the test, or 0 where none does
 unfoldable pub latest : (ℕ → Bool) → ℕ → ℕ
@@ -85,9 +84,9 @@ latest p (suc m) = cond (p m) m (latest p m)
 -- of the places before index m, `heads` has the last of each vertex, and `links` for each place the one before it of the same vertex
 pub record Filed (t : List ℕ) (m : ℕ) (heads links : List ℕ) : Type 0 where
   pub wide : length heads ≡ vertexLimit + 1
-  pub long : length links ≡ width * elementLimit
+  pub long : length links ≡ elementWidth * elementLimit
   pub first : (v : ℕ) → v ≤ vertexLimit → getD heads v 0 ≡ latest (holds t v) m
-  pub next : (x : ℕ) → x < m → 0 < x % width → getD links x 0 ≡ latest (holds t (getD t x 0)) x
+  pub next : (x : ℕ) → x < m → 0 < x % elementWidth → getD links x 0 ≡ latest (holds t (getD t x 0)) x
 
 -- a mark for each element; those that are marked 2 fit element j
 pub record Seen (t : List ℕ) (j : ℕ) (marks : List ℕ) : Type 0 where
@@ -101,7 +100,7 @@ Grown old new = (i : ℕ) → getD old i 0 ≤ getD new i 0
 -- element j is next, and the places of those before it are filed
 pub record Joining (t : List ℕ) (j : ℕ) (heads links : List ℕ) : Type 0 where
   pub table : Numbered t (j + 1)
-  pub filed : Filed t (width * j) heads links
+  pub filed : Filed t (elementWidth * j) heads links
 
 -- elements i and j are to be tested
 pub record Meeting (t : List ℕ) (i j : ℕ) (marks : List ℕ) : Type 0 where
@@ -121,13 +120,13 @@ pub record Met (t : List ℕ) (i j : ℕ) (old new : List ℕ) (r : Bool) : Type
 pub record Walking (t : List ℕ) (j v : ℕ) (heads links marks : List ℕ) : Type 0 where
   pub table : WholeTable t (j + 1)
   pub low : v ≤ vertexLimit
-  pub filed : Filed t (width * j) heads links
+  pub filed : Filed t (elementWidth * j) heads links
   pub seen : Seen t j marks
 
 -- each element before j that holds the vertex is marked, and fits where it was marked before; or j has a misfit
 pub record Walked (t : List ℕ) (j v : ℕ) (old new : List ℕ) (r : Bool) : Type 0 where
   pub seen : Seen t j new
   pub grown : Grown old new
-  pub marked : r ≡ true → (x : ℕ) → x < width * j → holds t v x ≡ true → 0 < getD new (x / width) 0
-  pub again : r ≡ true → (x : ℕ) → x < width * j → holds t v x ≡ true → 0 < getD old (x / width) 0 → pairFits t (x / width) j ≡ true
+  pub marked : r ≡ true → (x : ℕ) → x < elementWidth * j → holds t v x ≡ true → 0 < getD new (x / elementWidth) 0
+  pub again : r ≡ true → (x : ℕ) → x < elementWidth * j → holds t v x ≡ true → 0 < getD old (x / elementWidth) 0 → pairFits t (x / elementWidth) j ≡ true
   pub bad : r ≡ false → 0 < misfit t j

@@ -6,6 +6,7 @@ use mathlib.Core.Path.{_≡_}
 use Prim.Native.Nat.{ℕ, _*_, pred}
 use lib.Dec.{ltb}
 use lib.ListN.{length}
+use Rattle.limits.specs.Limits.{vertexLimit, elementLimit, elementWidth}
 use Rattle.laws.specs.Searches.{least}
 use Rattle.faults.specs.declared.Fault.{Fault}
 use Rattle.faults.specs.declared.Fault.the-variants.{Many, Room, Kind}
@@ -16,8 +17,7 @@ use Rattle.solids.specs.Solids.{Element}
 use Rattle.solids.specs.Fit.{fits}
 use Rattle.judging.specs.declared.JudgeAnswer.{JudgeAnswer}
 use Rattle.judging.specs.declared.JudgeAnswer.the-variants.{Done, Refused}
-use Rattle.records.specs.Limits.{vertexLimit, elementLimit}
-use Rattle.records.specs.Record.{width, recordFinding, recordAt, elementAt, firstElements}
+use Rattle.records.specs.Record.{recordFinding, recordAt, elementAt, firstElements}
 
 -- a finding is a fault
 abbrev pub isFault : Finding → Bool
@@ -50,7 +50,7 @@ unfoldable pub judged : (vertexCount elementCount : ℕ) → List ℕ → Verdic
 judged v n t =
     refuseIf (ltb vertexLimit v) (refuse Many 0)
     (refuseIf (ltb elementLimit n) (refuse Many 0)
-    (refuseIf (ltb (length t) (width * n)) (refuse Room 0)
+    (refuseIf (ltb (length t) (elementWidth * n)) (refuse Room 0)
     (let k = badRecord v t n in refuseIf (ltb 0 k) (refuse (faultIn (recordFinding v (recordAt t (pred k)))) k)
     (let j = badElement t n in refuseIf (ltb 0 j) (refusePair j (misfit t (pred j)))
     (accepted (firstElements t n))))))

@@ -4,11 +4,11 @@ use mathlib.Core.Path.{_≡_}
 use mathlib.Core.List.{List}
 use Prim.Native.Nat.{ℕ, pred, _≤_}
 use lib.Dec.{ltb}
+use Rattle.limits.specs.Limits.{vertexLimit}
 use Rattle.faults.specs.Refusals.{Verdict, accepted, refused, refusePair, refuseIf}
 use Rattle.solids.specs.Solids.{Element}
 use Rattle.records.specs.Record.{firstElements}
-use Rattle.records.specs.Loops.{WholeTable}
-use Rattle.records.specs.Limits.{vertexLimit}
+use Rattle.records.specs.WholeRecords.{WholeTable}
 use Rattle.judging.specs.declared.JudgeAnswer.{JudgeAnswer}
 use Rattle.judging.specs.declared.JudgeAnswer.the-variants.{Done, Refused}
 use Rattle.judging.specs.Judge.{badRecord, badElement, misfit, judged}

@@ -1,9 +1,11 @@
 // Whether the elements of a table fit together: the search for the first pair that does not fit. The verdict of a pair stands in pair.rt.
 ghost use mathlib.Core.Path.{_≡_};
 ghost use Prim.Native.Nat.{_+_};
-ghost use Rattle.records.specs.Loops.{WholeTable};
+ghost use Rattle.records.specs.WholeRecords.{WholeTable};
 ghost use Rattle.judging.specs.Judge.{misfit, badElement};
 ghost use Rattle.judging.specs.FitLoops.{Numbered};
+use limits::ELEMENT_NUMBERS;
+use limits::VERTEX_LIMIT;
 
 mod chains;
 mod corners;
@@ -33,8 +35,8 @@ pub fn bad_element(table: &[u16], n: usize) -> usize
     requires { ⌜ Numbered (now table) n ⌝ }
     ensures { λ r. ⌜ r ≡ badElement (now (table .entry)) n ⌝ }
 {
-    let mut heads = [0u16; 4097];
-    let mut links = [0u16; 9216];
+    let mut heads = [0u16; VERTEX_LIMIT + 1];
+    let mut links = [0u16; ELEMENT_NUMBERS];
     let mut j = 0;
     while j < n {
         if !chains::fits_all(table, j, &heads, &links) {

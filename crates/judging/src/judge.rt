@@ -3,7 +3,7 @@ ghost use mathlib.Core.Path.{_≡_};
 ghost use Prim.Native.Nat.{_<_, pred};
 ghost use Rattle.faults.specs.Refusals.{refuse, refusePair};
 ghost use Rattle.records.specs.Record.{recordFinding, recordAt};
-ghost use Rattle.records.specs.Loops.{WholeTable};
+ghost use Rattle.records.specs.WholeRecords.{WholeTable};
 ghost use Rattle.judging.specs.Judge.{badRecord, isFault, faultIn, misfit};
 ghost use Rattle.judging.specs.FitLoops.{Numbered};
 ghost use Rattle.judging.specs.JudgeLoops.{answerFrom, pairsJudged, RecordsJudging, Judging};
@@ -12,11 +12,8 @@ use crate::fit;
 use faults::Fault;
 use faults::Finding;
 use faults::Refusal;
-
-// At most 4,096 vertices, 1,024 elements.
-const VERTEX_LIMIT: usize = 4096;
-
-const ELEMENT_LIMIT: usize = 1024;
+use limits::ELEMENT_LIMIT;
+use limits::VERTEX_LIMIT;
 
 // The finding is a fault.
 fn is_fault(finding: Finding) -> bool

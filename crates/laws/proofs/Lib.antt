@@ -8,7 +8,6 @@ pub mod SearchLaws
 pub mod LowestLaws
 pub mod SizeLaws
 pub mod SignLaws
-pub mod GatherLaws
 pub mod IntegerLaws
 pub mod WordLaws
 pub mod PassLaws

@@ -13,6 +13,9 @@ pub const TETRAHEDRON_LIMIT: usize = 6144;
 
 pub const COORDINATE_LIMIT: i32 = 500000;
 
+// The same as the reader compares it, with a magnitude.
+pub const MAGNITUDE_LIMIT: u64 = COORDINATE_LIMIT as u64;
+
 // Digits: before the point of a coordinate, behind it, of a vertex number or count.
 pub const WHOLE_DIGITS: usize = 6;
 
@@ -33,6 +36,13 @@ pub const MARK_WIDTH: usize = 2;
 
 pub const FIELDS_AT: usize = 3;
 
+// Tables as long as the limits allow: the numbers of so many vertices, elements and tetrahedra.
+pub const VERTEX_NUMBERS: usize = VERTEX_WIDTH * VERTEX_LIMIT;
+
+pub const ELEMENT_NUMBERS: usize = ELEMENT_WIDTH * ELEMENT_LIMIT;
+
+pub const TETRAHEDRON_NUMBERS: usize = TETRAHEDRON_WIDTH * TETRAHEDRON_LIMIT;
+
 // Bytes of the text file.
 pub const LINE_END: u8 = 10;
 
@@ -48,7 +58,7 @@ pub const ZERO: u8 = 48;
 
 pub const NINE: u8 = 57;
 
-// Every number above, in this order.
+// Every number above but the three products, in this order.
 pub fn page_numbers() -> [usize; 21]
     ensures { λ r. ⌜ r ≡ pageNumbers ⌝ }
 {

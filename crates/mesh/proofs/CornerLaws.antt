@@ -12,7 +12,7 @@ use Rattle.solids.specs.Solids.{at, opposite}
 use Rattle.solids.specs.Cut.{first}
 use Rattle.solids.proofs.NumberingLaws.{lowest-place}
 use Rattle.records.specs.Record.{kindOf, usedOf}
-use Rattle.records.specs.Loops.{Whole}
+use Rattle.records.specs.WholeRecords.{Whole}
 use Rattle.records.proofs.RecordLaws.{used-length}
 use Rattle.mesh.proofs.RecordCutLaws.{from-inside}
 

@@ -8,6 +8,7 @@ use native.Mathlib.Omega.{arith}
 use lib.Dec.{eqb, ltb}
 use lib.ListN.{length}
 use borrow.Author.Tests.{eqb-true, ltb-false}
+use Rattle.limits.specs.Limits.{tetrahedronWidth}
 use Rattle.laws.specs.Lent.{laid}
 use Rattle.faults.specs.declared.Fault.the-variants.{Room, Join}
 use Rattle.faults.specs.declared.Refusal.{Refusal}
@@ -15,8 +16,7 @@ use Rattle.faults.specs.Refusals.{numberOf, Verdict, accepted, refused, refuse,
 use Rattle.faults.proofs.Theorems.{number-tells-fault}
 use Rattle.solids.specs.Solids.{Tet}
 use Rattle.records.specs.Record.{firstElements}
-use Rattle.records.specs.Loops.{WholeTable}
-use Rattle.records.specs.Limits.{tetrahedronWidth}
+use Rattle.records.specs.WholeRecords.{WholeTable}
 use Rattle.judging.specs.declared.JudgeAnswer.{JudgeAnswer}
 use Rattle.judging.specs.declared.JudgeAnswer.the-variants as judge
 use Rattle.judging.specs.Judge.{judged, JudgeDone}

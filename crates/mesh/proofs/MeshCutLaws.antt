@@ -7,12 +7,12 @@ use native.Mathlib.Nat.{le-refl, add-zero, add-suc, add-sub-of-le}
 use native.Mathlib.Numerals.{add-one}
 use native.Mathlib.Omega.{arith}
 use lib.ListN.{length, length-append}
+use Rattle.limits.specs.Limits.{tetrahedronWidth}
 use Rattle.laws.specs.Lent.{placed}
 use Rattle.laws.proofs.ListLaws.{gather-append}
 use Rattle.solids.specs.Solids.{Tet}
 use Rattle.solids.specs.Cut.{cut, cutMesh}
 use Rattle.records.specs.Record.{elementOf, recordAt, elementAt, firstElements}
-use Rattle.records.specs.Limits.{tetrahedronWidth}
 use Rattle.mesh.specs.Cutting.{flat}
 use Rattle.mesh.proofs.StoreLaws.{placed-after}
 

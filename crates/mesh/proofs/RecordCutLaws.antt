@@ -19,7 +19,7 @@ use Rattle.solids.proofs.RowLaws.{rows-agree}
 use Rattle.solids.proofs.CountLaws.{length-inOrder, proper-six}
 use Rattle.solids.proofs.Theorems.{cut-many}
 use Rattle.records.specs.Record.{kindOf, usedOf, isKind, solidOf, elementOf}
-use Rattle.records.specs.Loops.{Whole}
+use Rattle.records.specs.WholeRecords.{Whole}
 use Rattle.records.proofs.RecordLaws.{IsOne, is-4, is-5, is-6, is-8, which-kind, kind-corners, kind-small, used-length, whole-proper}
 use Rattle.mesh.specs.BlockLoops.{choice}
 use Rattle.mesh.proofs.ChoiceLaws.{none-through}

@@ -11,6 +11,7 @@ use lib.Dec.{eqb, ltb}
 use lib.IntN.{ℤ, pos, negsuc, natAbs}
 use lib.ListN.{length}
 use lib.Signed.{ltZ}
+use Rattle.limits.specs.Limits.{vertexWidth}
 use Rattle.laws.specs.Words.{count, every}
 use Rattle.laws.proofs.EveryLaws.{count-append}
 use Rattle.faults.specs.declared.Fault.the-variants.{Room, Range}
@@ -18,7 +19,6 @@ use Rattle.faults.specs.declared.Refusal.{Refusal}
 use Rattle.faults.specs.Refusals.{Verdict, accepted, refused, refuse, refuseIf, answerOf}
 use Rattle.solids.specs.Solids.{Tet, Element}
 use Rattle.solids.specs.Cut.{cut, cutMesh}
-use Rattle.records.specs.Limits.{vertexWidth}
 use Rattle.judging.specs.declared.JudgeAnswer.the-variants as judge
 use Rattle.mesh.specs.declared.SignCounts.{SignCounts}
 use Rattle.mesh.specs.declared.signs.Sign.{Sign}

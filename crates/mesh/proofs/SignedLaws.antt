@@ -9,14 +9,14 @@ use lib.Dec.{ltb}
 use lib.IntN.{ℤ}
 use lib.ListN.{length}
 use borrow.Author.Tests.{ltb-false, not-false}
+use Rattle.limits.specs.Limits.{elementLimit, vertexLimit, vertexWidth, elementWidth}
 use Rattle.laws.proofs.SearchLaws.{least-all}
 use Rattle.faults.specs.declared.Fault.the-variants.{Room, Range}
 use Rattle.faults.specs.declared.Finding.the-variants.{Clean}
 use Rattle.faults.specs.Refusals.{Verdict, accepted, refused, refuse, refuseIf, andThen}
 use Rattle.volume.specs.Volume.{pointInRange, pointAt}
 use Rattle.solids.specs.Solids.{Element}
-use Rattle.records.specs.Record.{width, recordFinding, recordAt}
-use Rattle.records.specs.Limits.{elementLimit, vertexLimit, vertexWidth}
+use Rattle.records.specs.Record.{recordFinding, recordAt}
 use Rattle.judging.specs.Judge.{judged}
 use Rattle.judging.proofs.AcceptedLaws.{Passed, passed, not-accepted}
 use Rattle.judging.proofs.Theorems.{accepted-acceptable}
@@ -37,7 +37,7 @@ pub record SignAccepted (v n : ℕ) (t : List ℕ) (table : List ℤ) : Type 0 w
   pub vertices : v ≤ vertexLimit
   pub elements : n ≤ elementLimit
   pub vertexRoom : vertexWidth * v ≤ length table
-  pub elementRoom : width * n ≤ length t
+  pub elementRoom : elementWidth * n ≤ length t
   pub ranged : (k : ℕ) → k < v → pointInRange (pointAt table (k + 1)) ≡ true
   pub clean : (k : ℕ) → k < n → recordFinding v (recordAt t k) ≡ Clean
 

@@ -10,6 +10,7 @@ use borrow.Author.Tests.{not-false}
 use lib.Dec.{T, ltb, leb, ltb→lt, leb→le, lt→ltb, le→leb}
 use lib.IntN.{ℤ}
 use lib.ListN.{length}
+use Rattle.limits.specs.Limits.{vertexWidth}
 use Rattle.laws.specs.Words.{every, among}
 use Rattle.laws.proofs.TestLaws.{T-true, true-T, and-left, and-right, and-both}
 use Rattle.laws.proofs.EveryLaws.{every-implies, among-every}
@@ -19,9 +20,8 @@ use Rattle.solids.specs.Solids.{tet, ofTet}
 use Rattle.solids.specs.Cut.{cut}
 use Rattle.solids.proofs.Theorems.{plain}
 use Rattle.records.specs.Record.{usedOf, elementOf, recordAt}
-use Rattle.records.specs.Loops.{isNumber, Whole}
+use Rattle.records.specs.WholeRecords.{isNumber, Whole}
 use Rattle.records.proofs.Theorems.{whole-proper}
-use Rattle.records.specs.Limits.{vertexWidth}
 use Rattle.judging.specs.Judge.{badRecord}
 use Rattle.mesh.specs.Signs.{badPoint}
 use Rattle.mesh.specs.BlockLoops.{BlockIs}

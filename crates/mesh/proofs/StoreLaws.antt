@@ -6,11 +6,11 @@ use Prim.Native.Nat.{ℕ, suc, _+_, _*_, _≤_, _<_}
 use native.Mathlib.Omega.{arith}
 use lib.ListN.{length, take, getD, length-map}
 use lib.Seq.{take-suc, length-take-le}
+use Rattle.limits.specs.Limits.{tetrahedronWidth}
 use Rattle.laws.specs.Lent.{placed}
 use Rattle.laws.proofs.LentLaws.{placed-placed}
 use Rattle.laws.proofs.ListLaws.{gather-append}
 use Rattle.solids.specs.Solids.{Tet, tet, ofTet}
-use Rattle.records.specs.Limits.{tetrahedronWidth}
 use Rattle.mesh.specs.Cutting.{flat}
 use Rattle.mesh.specs.BlockLoops.{keyed}
 

@@ -4,13 +4,13 @@ use mathlib.Core.Path.{_≡_}
 use Prim.Native.Nat.{ℕ, _*_}
 use lib.Dec.{ltb}
 use lib.ListN.{length}
+use Rattle.limits.specs.Limits.{tetrahedronWidth}
 use Rattle.laws.specs.Words.{gather}
 use Rattle.laws.specs.Lent.{laid}
 use Rattle.faults.specs.declared.Fault.the-variants.{Room}
 use Rattle.faults.specs.Refusals.{Verdict, accepted, refused, refuse, refuseIf, andThen, recordsOf, answerOf}
 use Rattle.solids.specs.Solids.{Vertex, Tet, ofTet}
 use Rattle.solids.specs.Cut.{cutMesh}
-use Rattle.records.specs.Limits.{tetrahedronWidth}
 use Rattle.mesh.specs.declared.CutAnswer.{CutAnswer}
 use Rattle.mesh.specs.declared.CutAnswer.the-variants.{Done, Refused}
 use Rattle.judging.specs.Judge.{judged}

@@ -7,13 +7,13 @@ use Prim.Native.Nat.{ℕ, zero, suc, _+_, _*_, _≤_, _<_}
 use lib.Dec.{T, eqb, ltb, leb}
 use lib.IntN.{ℤ, pos, negsuc}
 use lib.ListN.{length}
+use Rattle.limits.specs.Limits.{vertexWidth}
 use Rattle.laws.specs.Words.{count, every}
 use Rattle.faults.specs.declared.Fault.the-variants.{Range}
 use Rattle.faults.specs.Refusals.{refuse}
 use Rattle.volume.specs.Volume.{pointInRange, pointAt}
 use Rattle.solids.specs.Solids.{Vertex, Tet, ofTet}
 use Rattle.records.specs.Record.{usedOf, recordAt}
-use Rattle.records.specs.Limits.{vertexWidth}
 use Rattle.judging.specs.declared.JudgeAnswer.{JudgeAnswer}
 use Rattle.judging.specs.declared.JudgeAnswer.the-variants.{Done, Refused}
 use Rattle.mesh.specs.declared.SignCounts.{SignCounts}

@@ -7,6 +7,7 @@ use lib.Dec.{eqb, ltb, T}
 use lib.IntN.{ℤ, pos, natAbs}
 use lib.ListN.{length}
 use lib.Signed.{ltZ}
+use Rattle.limits.specs.Limits.{vertexWidth}
 use Rattle.laws.specs.Words.{count, every}
 use Rattle.laws.specs.Searches.{least}
 use Rattle.faults.specs.declared.Fault.the-variants.{Room, Range}
@@ -14,7 +15,6 @@ use Rattle.faults.specs.Refusals.{Verdict, accepted, refused, refuse, refuseIf,
 use Rattle.volume.specs.Volume.{pointInRange, pointAt, sixfoldAt}
 use Rattle.solids.specs.Solids.{Vertex, Tet, tet, Element}
 use Rattle.solids.specs.Cut.{cut, cutMesh}
-use Rattle.records.specs.Limits.{vertexWidth}
 use Rattle.mesh.specs.declared.SignAnswer.{SignAnswer}
 use Rattle.mesh.specs.declared.SignAnswer.the-variants.{Done, Refused}
 use Rattle.judging.specs.Judge.{judged}

@@ -13,7 +13,7 @@ ghost use Rattle.solids.specs.Solids.{four, element, ofTet, onFace, onTet, at, 
 ghost use Rattle.solids.specs.Cut.{lowestFirst, halves, follow, first, onDiagonal, bitsOf, fan, secondLowest, written, upTo, inOrder, cut};
 ghost use Rattle.solids.specs.Rows.{cutPlaces, rowPlaces, rowPlace, rowTets, binary, rowOf, cutByRow};
 ghost use Rattle.records.specs.Record.{kindOf, usedOf, elementOf};
-ghost use Rattle.records.specs.Loops.{Whole};
+ghost use Rattle.records.specs.WholeRecords.{Whole};
 ghost use Rattle.mesh.specs.BlockLoops.{tetOf, keyed, faceOf, Inserted, Grown, BlockIs, faceIn, faceTets, choice, withBit, cornersIn, rowTet, rowTetsAt};
 
 // A tetrahedron in vertex numbers.

@@ -4,22 +4,20 @@ use crate::CutCounts;
 use crate::blocks;
 use crate::blocks::Tet;
 use judging::JudgeAnswer;
+use limits::TETRAHEDRON_WIDTH;
 ghost use mathlib.Core.Path.{_≡_};
 ghost use mathlib.Core.List.{[], _∷_};
 ghost use Prim.Native.Nat.{_+_, _*_, _≤_};
 ghost use lib.ListN.{length};
+ghost use Rattle.limits.specs.Limits.{tetrahedronLimit, tetrahedronWidth};
 ghost use Rattle.laws.specs.Lent.{laid, placed};
 ghost use Rattle.solids.specs.Cut.{cut, cutMesh};
 ghost use Rattle.solids.specs.Rows.{cutPlaces};
 ghost use Rattle.records.specs.Record.{elementOf, firstElements};
-ghost use Rattle.records.specs.Loops.{Whole, WholeTable};
-ghost use Rattle.records.specs.Limits.{tetrahedronWidth};
+ghost use Rattle.records.specs.WholeRecords.{Whole, WholeTable};
 ghost use Rattle.mesh.specs.Cutting.{flat};
 ghost use Rattle.mesh.specs.BlockLoops.{tetOf, tetsIn, Stored, Counted};
 ghost use Rattle.mesh.specs.CutLoops.{faultlessOf, storedUnder, withCount};
-
-// How many numbers a tetrahedron of the output has.
-const TET: usize = 4;
 
 // The number of JOIN, which judging looks for last.
 const JOIN: u32 = 14;
@@ -61,7 +59,7 @@ fn put_tets(out: &mut [u16], at: usize, keys: &[u64; 6], n: usize)
     let mut k = 0;
     while k < n {
         let key = keys[k];
-        put_tet(out, at + TET * k, blocks::tet_of(key));
+        put_tet(out, at + TETRAHEDRON_WIDTH * k, blocks::tet_of(key));
         k += 1;
     }
 }
@@ -104,7 +102,12 @@ fn cut_each(table: &[u16], n: usize, cuts: &[u8; 1536], out: &mut [u16])
     let mut count = 0;
     let mut k = 0;
     while k < n {
-        let more = put_element(records::record_at(table, k), cuts, out, TET * count);
+        let more = put_element(
+            records::record_at(table, k),
+            cuts,
+            out,
+            TETRAHEDRON_WIDTH * count,
+        );
         count += more;
         k += 1;
     }
@@ -122,10 +125,10 @@ pub fn cut_all(table: &[u16], n: usize, out: &mut [u16])
 
 // How many numbers the tetrahedra take.
 pub fn numbers_of(count: usize) -> usize
-    requires { ⌜ count ≤ 6144 ⌝ }
+    requires { ⌜ count ≤ tetrahedronLimit ⌝ }
     ensures { λ r. ⌜ r ≡ tetrahedronWidth * count ⌝ }
 {
-    TET * count
+    TETRAHEDRON_WIDTH * count
 }
 
 // How many elements are stored: all, or none under a refusal.

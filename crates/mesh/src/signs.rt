@@ -6,6 +6,7 @@ use crate::blocks::Tet;
 use faults::Fault;
 use faults::Refusal;
 use judging::JudgeAnswer;
+use limits::VERTEX_WIDTH;
 use solids::Vertex;
 use volume::Point;
 use volume::VolumeAnswer;
@@ -15,18 +16,15 @@ ghost use Prim.Native.Nat.{_*_, _≤_};
 ghost use lib.Dec.{T};
 ghost use lib.IntN.{pos};
 ghost use lib.ListN.{getD};
+ghost use Rattle.limits.specs.Limits.{vertexLimit, vertexWidth};
 ghost use Rattle.laws.specs.Words.{every};
 ghost use Rattle.volume.specs.Volume.{pointAt};
 ghost use Rattle.solids.specs.Rows.{cutPlaces};
 ghost use Rattle.records.specs.Record.{usedOf, elementOf, firstElements};
-ghost use Rattle.records.specs.Loops.{Whole, WholeTable};
-ghost use Rattle.records.specs.Limits.{vertexWidth};
+ghost use Rattle.records.specs.WholeRecords.{Whole, WholeTable};
 ghost use Rattle.mesh.specs.Signs.{volumeIn, signCounts, badPoint};
 ghost use Rattle.mesh.specs.BlockLoops.{tetOf, tetsIn};
 ghost use Rattle.mesh.specs.SignLoops.{rangeAnswer, verticesAnswer, sited, sitedTet, SitedBlock, SitedTable, signOf, withSign, Few, Tallied, allPositive, ofCounts, FewSums, Summed};
-
-// How many numbers a vertex has.
-const POINT: usize = 3;
 
 // The sign of a tetrahedron's sixfold volume.
 pub enum Sign {
@@ -57,7 +55,7 @@ fn point_at(vertices: &[i32], v: Vertex) -> Point
     requires { ⌜ 1 ≤ v .0 ⌝ }
     ensures { λ p. ⌜ p ≡ pointAt (now (vertices .entry)) (v .0) ⌝ }
 {
-    let at = POINT * (v.0 as usize - 1);
+    let at = VERTEX_WIDTH * (v.0 as usize - 1);
     Point {
         x: number_at(vertices, at),
         y: number_at(vertices, at + 1),
@@ -67,7 +65,7 @@ fn point_at(vertices: &[i32], v: Vertex) -> Point
 
 // The first of n vertices with a coordinate beyond the limits, or none.
 fn bad_point(vertices: &[i32], n: usize) -> Vertex
-    requires { ⌜ n ≤ 4096 ⌝ }
+    requires { ⌜ n ≤ vertexLimit ⌝ }
     ensures { λ r. ⌜ r .0 ≡ badPoint (now (vertices .entry)) n ⌝ }
 {
     let mut k = 0;
@@ -83,7 +81,7 @@ fn bad_point(vertices: &[i32], n: usize) -> Vertex
 
 // A vertex beyond the limits is RANGE with its number.
 fn judge_range(vertices: &[i32], n: usize) -> JudgeAnswer
-    requires { ⌜ n ≤ 4096 ⌝ }
+    requires { ⌜ n ≤ vertexLimit ⌝ }
     ensures { λ r. ⌜ r ≡ rangeAnswer (badPoint (now (vertices .entry)) n) ⌝ }
 {
     let v = bad_point(vertices, n);
@@ -99,7 +97,7 @@ fn judge_range(vertices: &[i32], n: usize) -> JudgeAnswer
 
 // The vertex table: ROOM, then RANGE.
 pub fn judge_vertices(vertices: &[i32], n: usize) -> JudgeAnswer
-    requires { ⌜ n ≤ 4096 ⌝ }
+    requires { ⌜ n ≤ vertexLimit ⌝ }
     ensures { λ r. ⌜ r ≡ verticesAnswer (now (vertices .entry)) n ⌝ }
 {
     let room = answers::judge_room(vertices.len(), numbers_of(n));
@@ -277,8 +275,8 @@ pub fn count_signs(table: &[u16], n: usize, vertices: &[i32]) -> SignCounts
 
 // How many numbers the vertices take.
 fn numbers_of(count: usize) -> usize
-    requires { ⌜ count ≤ 4096 ⌝ }
+    requires { ⌜ count ≤ vertexLimit ⌝ }
     ensures { λ r. ⌜ r ≡ vertexWidth * count ⌝ }
 {
-    POINT * count
+    VERTEX_WIDTH * count
 }

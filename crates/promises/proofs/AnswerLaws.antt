@@ -8,6 +8,7 @@ use native.Mathlib.Omega.{arith}
 use lib.Dec.{T, ltb}
 use lib.ListN.{length, drop}
 use borrow.Author.Tests.{ltb-false, le-ltb}
+use Rattle.limits.specs.Limits.{tetrahedronWidth}
 use Rattle.laws.specs.Words.{gather}
 use Rattle.laws.specs.Lent.{laid}
 use Rattle.faults.specs.declared.Fault.the-variants.{Room}
@@ -17,7 +18,6 @@ use Rattle.faults.proofs.Theorems.{answer-tells-verdict}
 use Rattle.solids.specs.Solids.{Vertex, Tet, tet, Element, ofTet}
 use Rattle.solids.specs.Cut.{cutMesh}
 use Rattle.records.specs.Record.{firstElements}
-use Rattle.records.specs.Limits.{tetrahedronWidth}
 use Rattle.judging.specs.declared.JudgeAnswer.the-variants as judge
 use Rattle.mesh.specs.declared.CutAnswer.the-variants as cut
 use Rattle.judging.specs.Judge.{judged, JudgeDone}

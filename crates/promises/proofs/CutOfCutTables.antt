@@ -7,6 +7,7 @@ use Prim.Native.Nat.{ℕ, _*_, _≤_, _<_}
 use native.Mathlib.Omega.{arith}
 use lib.Dec.{T, eqb}
 use lib.ListN.{length, getD, length-append, length-map, List·getD-map}
+use Rattle.limits.specs.Limits.{elementLimit, tetrahedronWidth, elementWidth}
 use Rattle.laws.specs.Words.{every, among, distinct, gather}
 use Rattle.laws.specs.Lent.{laid}
 use Rattle.laws.proofs.TestLaws.{and-left, and-right, and-both}
@@ -18,10 +19,9 @@ use Rattle.solids.specs.Cut.{cut, cutMesh}
 use Rattle.solids.specs.Fit.{proper, fitting}
 use Rattle.solids.specs.Listings.{asElement}
 use Rattle.solids.proofs.Theorems.{plain, again-fitting, again-cut}
-use Rattle.records.specs.Record.{width, asRecord, elementOf, recordFinding, recordAt, elementAt, firstElements}
-use Rattle.records.specs.Loops.{isNumber}
+use Rattle.records.specs.Record.{asRecord, elementOf, recordFinding, recordAt, elementAt, firstElements}
+use Rattle.records.specs.WholeRecords.{isNumber}
 use Rattle.records.proofs.Theorems.{clean-faultless, faultless-clean, first-are, first-all, gathered-length, gathered-at}
-use Rattle.records.specs.Limits.{elementLimit, tetrahedronWidth}
 use Rattle.judging.specs.Judge.{judged}
 use Rattle.judging.specs.Acceptance.{Acceptable}
 use Rattle.mesh.specs.Cutting.{flat, cutOf}
@@ -36,10 +36,10 @@ module _ (ts : List (Tet Vertex)) where
   abbrev d : Tet Vertex
   d = tet 0 0 0 0
 
-  all-wide : T (every (λ u. eqb (length (asRecord u)) width) ts)
-  all-wide = every-indexed (λ u. eqb (length (asRecord u)) width) d ts (λ k h. record-wide (getD ts k d))
+  all-wide : T (every (λ u. eqb (length (asRecord u)) elementWidth) ts)
+  all-wide = every-indexed (λ u. eqb (length (asRecord u)) elementWidth) d ts (λ k h. record-wide (getD ts k d))
 
-  pub table-long : length (asTable ts) ≡ width * length ts
+  pub table-long : length (asTable ts) ≡ elementWidth * length ts
   unfolding asTable
   table-long = gathered-length asRecord ts all-wide
 

@@ -5,10 +5,10 @@ use mathlib.Core.List.{List}
 use Prim.Native.Nat.{ℕ, _≤_}
 use native.Mathlib.Omega.{arith}
 use lib.ListN.{length, getD}
+use Rattle.limits.specs.Limits.{fileLimit, elementLimit}
 use Rattle.faults.specs.Refusals.{Verdict, accepted, refused, andThen}
 use Rattle.solids.specs.Solids.{Vertex, Tet}
 use Rattle.mesh.specs.Cutting.{cutOf}
-use Rattle.text.specs.Constants.{fileLimit, elementLimit}
 use Rattle.text.specs.File.{fileVerdict}
 use Rattle.text.specs.Records.{storedVertices, storedElements}
 use Rattle.converting.specs.Conversion.{rooms, cutRoom, cutText, conversion, written, programOutput}

@@ -8,6 +8,7 @@ use native.Mathlib.Omega.{arith}
 use lib.IntN.{ℤ, pos}
 use lib.ListN.{length, getD, take}
 use lib.Seq.{take-all}
+use Rattle.limits.specs.Limits.{fileLimit, vertexWidth, elementWidth, elementLimit}
 use Rattle.laws.proofs.TestLaws.{T-true}
 use Rattle.laws.proofs.EveryLaws.{every-index}
 use Rattle.faults.specs.Refusals.{Verdict, accepted}
@@ -18,7 +19,6 @@ use Rattle.solids.specs.Listings.{asElement}
 use Rattle.judging.specs.Judge.{judged}
 use Rattle.mesh.specs.Cutting.{cutOf}
 use Rattle.judging.proofs.AcceptedLaws.{accepted-clean, accepted-vertices}
-use Rattle.text.specs.Constants.{fileLimit, vertexWidth, elementWidth, elementLimit}
 use Rattle.text.specs.File.{fileVerdict}
 use Rattle.text.specs.Records.{storedVertices, storedElements}
 use Rattle.writing.specs.Written.{writtenFile}

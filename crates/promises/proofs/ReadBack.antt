@@ -23,6 +23,7 @@ use mathlib.Core.Bool.{true, cond}
 use mathlib.Core.List.{List, [], _∷_}
 use lib.IntN.{ℤ, pos}
 use lib.ListN.{length, getD}
+use Rattle.limits.specs.Limits.{fileLimit, vertexLimit, elementLimit, vertexWidth, elementWidth, numberDigits}
 use Rattle.laws.specs.Words.{distinct}
 use Rattle.laws.proofs.TestLaws.{T-true}
 use Rattle.faults.specs.declared.Finding.the-variants.{Clean, Found}
@@ -36,7 +37,6 @@ use Rattle.mesh.specs.Signs.{signsOf, acceptedTables, signVerdict, SignDone}
 use Rattle.mesh.specs.declared.SignAnswer.{SignAnswer}
 use Rattle.mesh.specs.declared.SignAnswer.the-variants as sign
 use Rattle.mesh.specs.declared.SignCounts.{SignCounts}
-use Rattle.text.specs.Constants.{fileLimit, vertexLimit, elementLimit, vertexWidth, elementWidth, numberDigits}
 use Rattle.text.specs.Number.{coordinateOf, numberOf}
 use Rattle.text.specs.Records.{ReadDone}
 use Rattle.text.specs.declared.terms.Spelt.the-variants.{Of}

@@ -11,6 +11,7 @@ use lib.IntN.{ℤ}
 use lib.ListN.{length, take, drop, length-append, length-drop, take-append-drop}
 use lib.Seq.{take-append-le, drop-append-le, take-at, length-take-le}
 use borrow.Author.Tests.{eq-eqb}
+use Rattle.limits.specs.Limits.{vertexWidth, elementWidth}
 use Rattle.laws.specs.Words.{some, distinct}
 use Rattle.laws.specs.Lent.{laid}
 use Rattle.laws.proofs.TestLaws.{true-T, T-true}
@@ -20,9 +21,8 @@ use Rattle.faults.specs.declared.Finding.the-variants.{Clean, Found}
 use Rattle.faults.specs.declared.Fault.the-variants.{Repeat}
 use Rattle.faults.proofs.Theorems.{answer-tells-verdict}
 use Rattle.records.specs.Record.{kindOf, usedOf, spareOf, isKind, strayVertex, notZero, recordFinding, recordAt}
-use Rattle.records.specs.Loops.{isNumber}
+use Rattle.records.specs.WholeRecords.{isNumber}
 use Rattle.records.proofs.RecordLaws.{faultless-clean, finding-clean, finding-repeat, stays}
-use Rattle.text.specs.Constants.{vertexWidth, elementWidth}
 use Rattle.text.specs.File.{start, linesOf, fileVerdict}
 use Rattle.text.specs.Records.{vertexRecords, elementRecords, recordsFrom, verdictOf, roomsOf, ReadDone}
 use Rattle.text.specs.declared.ReadAnswer.the-variants as read

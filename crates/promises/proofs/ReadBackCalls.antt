@@ -10,9 +10,10 @@ use lib.IntN.{ℤ, pos}
 use lib.ListN.{length, getD, take, drop}
 use lib.Dec.{ltb, leb, leb→le, le→leb}
 use lib.Seq.{drop-drop, getD-drop, getD-take, take-append-seam}
+use Rattle.limits.specs.Limits.{fileLimit, vertexLimit, vertexWidth, elementWidth}
 use Rattle.laws.specs.Words.{gather}
 use Rattle.laws.specs.Lent.{laid}
-use Rattle.laws.proofs.GatherLaws.{gather-append}
+use Rattle.laws.proofs.ListLaws.{gather-append}
 use Rattle.laws.proofs.EveryLaws.{every-implies}
 use Rattle.laws.proofs.TestLaws.{and-left, and-right, and-both}
 use Rattle.faults.specs.declared.Finding.the-variants.{Clean}
@@ -20,11 +21,10 @@ use Rattle.volume.specs.Volume.{pointAt, pointInRange}
 use Rattle.volume.specs.declared.Point.{Point}
 use Rattle.volume.proofs.RangeLaws.{coordinates}
 use Rattle.records.specs.Record.{usedOf, recordFinding, recordAt}
-use Rattle.records.specs.Loops.{isNumber}
+use Rattle.records.specs.WholeRecords.{isNumber}
 use Rattle.records.proofs.RecordLaws.{clean-faultless, faultless-clean}
 use Rattle.mesh.specs.Signs.{acceptedTables}
 use Rattle.mesh.proofs.SignedLaws.{sign-accepted}
-use Rattle.text.specs.Constants.{fileLimit, vertexLimit, vertexWidth, elementWidth}
 use Rattle.text.specs.File.{start}
 use Rattle.text.specs.Records.{roomsOf, verdictOf, ReadDone}
 use Rattle.text.specs.declared.terms.ReaderState.{ReaderState}

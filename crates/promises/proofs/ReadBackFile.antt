@@ -10,6 +10,7 @@ use lib.IntN.{ℤ, pos}
 use lib.ListN.{length, getD, take, drop, length-append, length-drop}
 use lib.Seq.{drop-drop, take-add, length-take-le}
 use borrow.Author.Tests.{le-ltb}
+use Rattle.limits.specs.Limits.{lineEnd, fileLimit, vertexLimit, elementLimit, vertexWidth, elementWidth}
 use Rattle.laws.specs.Pieces.{Pieces, rest, piece, split}
 use Rattle.laws.specs.Words.{gather}
 use Rattle.laws.proofs.PieceLaws.{Free, split-joined}
@@ -17,7 +18,6 @@ use Rattle.faults.specs.Refusals.{accepted}
 use Rattle.faults.specs.declared.Finding.the-variants.{Clean}
 use Rattle.volume.specs.Volume.{inRange}
 use Rattle.records.specs.Record.{recordFinding, recordAt}
-use Rattle.text.specs.Constants.{lineEnd, fileLimit, vertexLimit, elementLimit, vertexWidth, elementWidth}
 use Rattle.text.specs.Line.{after}
 use Rattle.text.specs.File.{start, linesOf, atEnd, fileFrom, fileVerdict}
 use Rattle.text.specs.Records.{vertexRecords, elementRecords, recordsFrom, storedVertices, storedElements}

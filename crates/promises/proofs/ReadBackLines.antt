@@ -9,16 +9,16 @@ use lib.Dec.{T, eqb, ltb, leb, eqb→eq, ltb→lt, leb→le}
 use lib.IntN.{ℤ}
 use lib.ListN.{length, getD, drop, length-append, length-map}
 use borrow.Author.Tests.{le-ltb, lt-leb, eq-eqb, ne-eqb}
+use Rattle.limits.specs.Limits.{lineEnd, space, vertexLimit, elementLimit, vertexWidth, elementWidth, cornerWidth, numberDigits, fieldsAt, markWidth}
 use Rattle.laws.specs.Pieces.{Pieces, rest, piece, split}
 use Rattle.laws.specs.Words.{gather, every}
 use Rattle.laws.proofs.PieceLaws.{Free, split-joined, split-free}
 use Rattle.laws.proofs.TestLaws.{and-left, and-right}
 use Rattle.volume.specs.Volume.{inRange}
 use Rattle.records.specs.Record.{kindOf, usedOf, spareOf, isKind, recordFinding}
-use Rattle.records.specs.Loops.{isNumber}
+use Rattle.records.specs.WholeRecords.{isNumber}
 use Rattle.records.proofs.RecordLaws.{IsOne, is-4, is-5, is-6, is-8, which-kind, used-length, record-parts, clean-faultless, clean-whole}
 use Rattle.faults.specs.declared.Finding.the-variants.{Clean}
-use Rattle.text.specs.Constants.{lineEnd, space, vertexLimit, elementLimit, vertexWidth, elementWidth, cornerWidth, numberDigits, fieldsAt, markWidth}
 use Rattle.text.specs.Number.{numberOf, valueOf, whole}
 use Rattle.text.specs.Line.{markBytes, markWith, markOf, wants, roleOf, fieldsOf, areFields, firstOf, fieldVerdict, fieldsVerdict, badMark, tooMany, badShape, noRoom, badCounts, afterRole, after, lineVerdict}
 use Rattle.text.specs.Records.{vertexRecord, tipFirst, cornerFields, elementRecord, vertexRecords, elementRecords}

@@ -9,11 +9,11 @@ use lib.Dec.{eqb, ltb}
 use lib.IntN.{ℤ, pos, negsuc, natAbs}
 use lib.ListN.{length, getD, length-append, List·getD-append}
 use borrow.Author.Tests.{le-leb, ltb-true, ltb-false, ne-eqb}
+use Rattle.limits.specs.Limits.{comma, minus, point, digit0, digit9, coordinateLimit, numberDigits}
 use Rattle.laws.specs.Pieces.{split}
 use Rattle.laws.proofs.PieceLaws.{Free, split-joined, split-free}
 use Rattle.volume.specs.Volume.{inRange}
 use Rattle.volume.proofs.RangeLaws.{in-range-within}
-use Rattle.text.specs.Constants.{comma, minus, point, digit0, digit9, coordinateLimit, numberDigits}
 use Rattle.text.specs.Number.{appended, spelt, whole, decimals, signed, millimetres, unsigned, coordinateOf, thousandthsOf, numberOf, valueOf}
 use Rattle.text.specs.declared.terms.Spelt.the-variants.{Of}
 use Rattle.text.specs.declared.terms.Coordinate.the-variants.{Thousandths}

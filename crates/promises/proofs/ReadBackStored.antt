@@ -11,6 +11,7 @@ use lib.IntN.{ℤ, pos, negsuc, natAbs}
 use lib.ListN.{length, getD, take, drop, length-append}
 use lib.Seq.{drop-drop, take-at, drop-at}
 use borrow.Author.Tests.{le-leb, leb-true, eqb-false, ltb-false, eq-eqb, not-false}
+use Rattle.limits.specs.Limits.{comma, minus, point, coordinateLimit, space, vertexWidth, elementWidth, cornerWidth, markWidth}
 use Rattle.laws.specs.Pieces.{Pieces, rest, piece, split}
 use Rattle.laws.specs.Words.{every}
 use Rattle.laws.proofs.TestLaws.{true-T, T-true, and-right, and-both}
@@ -20,9 +21,8 @@ use Rattle.faults.specs.declared.Fault.{Fault}
 use Rattle.faults.specs.declared.Fault.the-variants as fault
 use Rattle.volume.specs.Volume.{inRange}
 use Rattle.records.specs.Record as record-of
-use Rattle.records.specs.Record.{width, kindOf, usedOf, spareOf, isKind}
-use Rattle.records.specs.Loops.{isNumber}
-use Rattle.text.specs.Constants.{comma, minus, point, coordinateLimit, space, vertexWidth, elementWidth, cornerWidth, markWidth}
+use Rattle.records.specs.Record.{kindOf, usedOf, spareOf, isKind}
+use Rattle.records.specs.WholeRecords.{isNumber}
 use Rattle.text.specs.Number.{cut, signed, millimetres, unsigned, coordinateOf, thousandthsIn, thousandthsOf, valueIn, numberOf, valueOf, whole}
 use Rattle.text.specs.Line.{markOf, roleOf, wants, fieldsOf, some, areFields, firstOf, numbersOf, judgeCoordinate, judgeVertex, first, fieldVerdict, fieldsVerdict, badShape, afterRole, after}
 use Rattle.text.specs.File.{start, linesOf, fileVerdict}
@@ -174,7 +174,7 @@ zero-at (suc n) (suc m) (piece l p) a (suc i) h = zero-at n m p (more-fields m l
 
 -- nine numbers, a kind, vertex numbers up to a limit, the unused ones zero
 pub record Stored (limit : ℕ) (r : List ℕ) : Type 0 where
-  pub wide : length r ≡ width
+  pub wide : length r ≡ elementWidth
   pub kind : T (isKind (kindOf r))
   pub inside : T (every (isNumber limit) (usedOf r))
   pub unused : T (every (eqb 0) (spareOf r))

@@ -8,6 +8,7 @@ use native.Mathlib.Omega.{arith}
 use lib.Dec.{T, eqb}
 use lib.ListN.{length, getD, drop, length-append, length-drop, length-map}
 use borrow.Author.Tests.{eq-eqb}
+use Rattle.limits.specs.Limits.{elementWidth}
 use Rattle.laws.specs.Words.{every, gather}
 use Rattle.laws.specs.Lent.{laid}
 use Rattle.laws.proofs.TestLaws.{true-T}
@@ -15,8 +16,8 @@ use Rattle.laws.proofs.EveryLaws.{every-indexed}
 use Rattle.solids.specs.Solids.{Place, Element, element, corners, at}
 use Rattle.solids.specs.Rotations.{isRotation}
 use Rattle.solids.specs.Listings.{Relists, by-rotation}
-use Rattle.records.specs.Record.{width, kindOf, usedOf, spareOf, solidOf, elementOf, recordAt}
-use Rattle.records.specs.Loops.{Whole, WholeTable}
+use Rattle.records.specs.Record.{kindOf, usedOf, spareOf, solidOf, elementOf, recordAt}
+use Rattle.records.specs.WholeRecords.{Whole, WholeTable}
 use Rattle.records.proofs.RecordLaws.{kind-corners, used-length}
 use Rattle.records.proofs.Theorems.{record-parts, made-length, made-kind, made-used, made-spare, gathered-length, gathered-at}
 use Rattle.promises.specs.Tables.{RecordRelisted, TableRelisted, relistedRecord, relistedRecords, relistedTable}
@@ -90,12 +91,12 @@ module _ (n : ℕ) (t : List ℕ) (w : WholeTable t n) (ρs : List (List Place))
   each-relisted k h =
       subst (RecordRelisted (recordAt t k)) (sym (rs-at k h)) (relisted-record (recordAt t k) (w .whole k h) (getD ρs k []) (all k h))
 
-  all-wide : T (every (λ r. eqb (length r) width) rs)
+  all-wide : T (every (λ r. eqb (length r) elementWidth) rs)
   all-wide =
-      every-indexed (λ r. eqb (length r) width) [] rs
+      every-indexed (λ r. eqb (length r) elementWidth) [] rs
       (λ k b.
       let h : k < n = subst (λ (m : ℕ). k < m) rs-many b in
-      true-T (eq-eqb (length (getD rs k [])) width (each-relisted k h .long ∙ w .whole k h .wide)))
+      true-T (eq-eqb (length (getD rs k [])) elementWidth (each-relisted k h .long ∙ w .whole k h .wide)))
 
   pub relisted-table : TableRelisted n t (relistedTable ρs t)
   unfolding relistedTable laid

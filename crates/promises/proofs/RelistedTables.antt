@@ -10,6 +10,7 @@ use lib.Dec.{T, eqb, ltb, eqb→eq}
 use lib.IntN.{ℤ}
 use lib.ListN.{length, length-map}
 use borrow.Author.Tests.{eq-eqb, ltb-true, ltb-false}
+use Rattle.limits.specs.Limits.{elementLimit, tetrahedronWidth, vertexLimit, vertexWidth, elementWidth}
 use Rattle.laws.specs.Words.{count, every, some, among, distinct}
 use Rattle.laws.specs.Lent.{laid}
 use Rattle.laws.proofs.TestLaws.{and-left, and-right, and-both, or-cases, or-left, or-right}
@@ -28,8 +29,7 @@ use Rattle.solids.proofs.SetLaws.{Sub, among-first, among-later, among-cases}
 use Rattle.solids.proofs.SideLaws.{bool-iff}
 use Rattle.solids.proofs.RelistingLaws.{alike-there, alike-home}
 use Rattle.solids.proofs.Theorems.{proper-relisted, relisting-fitting, relisting-cut}
-use Rattle.records.specs.Record.{width, usedOf, elementOf, recordFinding, recordAt, elementAt, firstElements}
-use Rattle.records.specs.Limits.{elementLimit, tetrahedronWidth, vertexLimit, vertexWidth}
+use Rattle.records.specs.Record.{usedOf, elementOf, recordFinding, recordAt, elementAt, firstElements}
 use Rattle.judging.specs.Judge.{isFault, faultIn, badRecord, pairFits, misfit, badElement, judged, JudgeDone}
 use Rattle.judging.specs.declared.JudgeAnswer.{JudgeAnswer}
 use Rattle.mesh.specs.declared.CutAnswer.{CutAnswer}
@@ -172,7 +172,7 @@ module _ (v n : ℕ) where
   faultsOf t = refuseIf (ltb 0 (badRecord v t n)) (refuse (faultIn (recordFinding v (recordAt t (pred (badRecord v t n))))) (badRecord v t n)) (pairsOf t)
 
   abbrev lengthOf : List ℕ → Verdict (List Element)
-  lengthOf t = refuseIf (ltb (length t) (width * n)) (refuse Room 0) (faultsOf t)
+  lengthOf t = refuseIf (ltb (length t) (elementWidth * n)) (refuse Room 0) (faultsOf t)
 
   abbrev manyOf : List ℕ → Verdict (List Element)
   manyOf t = refuseIf (ltb elementLimit n) (refuse Many 0) (lengthOf t)
@@ -242,19 +242,19 @@ module _ (v n : ℕ) where
         ap (λ (x : Verdict (List Element)). andThen x f) (whole-verdict t′)
         ∙ alike f (ltb vertexLimit v) (ltb vertexLimit v) (refuse Many 0) (refuse Many 0) (manyOf t) (manyOf t′) refl (λ b. refl) (λ a.
         alike f (ltb elementLimit n) (ltb elementLimit n) (refuse Many 0) (refuse Many 0) (lengthOf t) (lengthOf t′) refl (λ b. refl) (λ b.
-        alike f (ltb (length t) (width * n)) (ltb (length t′) (width * n)) (refuse Room 0) (refuse Room 0) (faultsOf t) (faultsOf t′)
-        (ap (λ (m : ℕ). ltb m (width * n)) (w .long)) (λ b. refl) (λ c.
+        alike f (ltb (length t) (elementWidth * n)) (ltb (length t′) (elementWidth * n)) (refuse Room 0) (refuse Room 0) (faultsOf t) (faultsOf t′)
+        (ap (λ (m : ℕ). ltb m (elementWidth * n)) (w .long)) (λ b. refl) (λ c.
         alike f (ltb 0 (badRecord v t n)) (ltb 0 (badRecord v t′ n))
         (refuse (faultIn (recordFinding v (recordAt t (pred (badRecord v t n))))) (badRecord v t n))
         (refuse (faultIn (recordFinding v (recordAt t′ (pred (badRecord v t′ n))))) (badRecord v t′ n)) (pairsOf t) (pairsOf t′)
         (ap (ltb 0) bad-record-alike) (λ d. record-refusal (ltb-true 0 (badRecord v t n) d)) (λ d. pairs (all b c d)))))
         ∙ ap (λ (x : Verdict (List Element)). andThen x f) (sym (whole-verdict t))
       where
-        all : ltb elementLimit n ≡ false → ltb (length t) (width * n) ≡ false → ltb 0 (badRecord v t n) ≡ false → T (every proper (firstElements t n))
+        all : ltb elementLimit n ≡ false → ltb (length t) (elementWidth * n) ≡ false → ltb 0 (badRecord v t n) ≡ false → T (every proper (firstElements t n))
         all b c d =
             let k = ltb-false 0 (badRecord v t n) d in
             let z : badRecord v t n ≡ 0 = omega arith in
-            clean-proper v n t (ltb-false elementLimit n b) (ltb-false (length t) (width * n) c) (record-clean v t n z)
+            clean-proper v n t (ltb-false elementLimit n b) (ltb-false (length t) (elementWidth * n) c) (record-clean v t n z)
 
         pairs : T (every proper (firstElements t n)) → andThen (pairsOf t′) f ≡ andThen (pairsOf t) f
         pairs p =

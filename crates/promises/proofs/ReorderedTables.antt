@@ -9,6 +9,7 @@ use native.Mathlib.Omega.{arith}
 use lib.Dec.{T, eqb, ltb, eqb→eq, ltb→lt}
 use lib.ListN.{length, getD, drop, length-append, length-drop, length-map, List·getD-map}
 use borrow.Author.Tests.{eq-eqb}
+use Rattle.limits.specs.Limits.{tetrahedronWidth, elementWidth}
 use Rattle.laws.specs.Words.{every, among, distinct, gather}
 use Rattle.laws.specs.Lent.{laid}
 use Rattle.laws.proofs.TestLaws.{and-left, and-right, true-T}
@@ -23,9 +24,8 @@ use Rattle.solids.specs.Listings.{isOrder, picked}
 use Rattle.solids.proofs.SetLaws.{among-cases}
 use Rattle.solids.proofs.SideLaws.{bool-iff}
 use Rattle.solids.proofs.Theorems.{order-names, reordered-fitting, reordered-many, reordered-cut}
-use Rattle.records.specs.Record.{width, elementOf, recordFinding, recordAt, elementAt, firstElements}
+use Rattle.records.specs.Record.{elementOf, recordFinding, recordAt, elementAt, firstElements}
 use Rattle.records.proofs.Theorems.{record-length, first-length, first-at, first-are, gathered-length, gathered-at}
-use Rattle.records.specs.Limits.{tetrahedronWidth}
 use Rattle.judging.specs.Judge.{judged}
 use Rattle.judging.specs.Acceptance.{Acceptable}
 use Rattle.mesh.specs.Cutting.{flat, cutOf}
@@ -95,14 +95,14 @@ module _ (n : ℕ) (σ t t′ : List ℕ) (w : TableReordered n σ t t′) where
     acceptable-there a = record {
       vertices = a .vertices;
       elements = a .elements;
-      long = subst (λ (m : ℕ). width * n ≤ m) (sym (w .long)) (a .long);
+      long = subst (λ (m : ℕ). elementWidth * n ≤ m) (sym (w .long)) (a .long);
       clean = clean-there v (a .clean);
       fit = subst T (sym (fitting-alike (acceptable-proper v n t a))) (a .fit);
     }
 
     acceptable-home : Acceptable v n t′ → Acceptable v n t
     acceptable-home a =
-        let long : width * n ≤ length t = subst (λ (m : ℕ). width * n ≤ m) (w .long) (a .long) in
+        let long : elementWidth * n ≤ length t = subst (λ (m : ℕ). elementWidth * n ≤ m) (w .long) (a .long) in
         let clean = clean-home v (a .clean) in
         record {
           vertices = a .vertices;
@@ -171,11 +171,11 @@ module _ (n : ℕ) (σ t t′ : List ℕ) (w : TableReordered n σ t t′) where
 
 -- ---- there is such a table, for every order of the records that a table holds
 
-module _ (n : ℕ) (σ t : List ℕ) (o : T (isOrder n σ)) (long : width * n ≤ length t) where
-  all-wide : T (every (λ i. eqb (length (recordAt t i)) width) σ)
+module _ (n : ℕ) (σ t : List ℕ) (o : T (isOrder n σ)) (long : elementWidth * n ≤ length t) where
+  all-wide : T (every (λ i. eqb (length (recordAt t i)) elementWidth) σ)
   all-wide =
-      every-implies (λ i. ltb i n) (λ i. eqb (length (recordAt t i)) width)
-      (λ i h. true-T (eq-eqb (length (recordAt t i)) width (record-length t n i long (ltb→lt i n h)))) σ (order-all n σ o)
+      every-implies (λ i. ltb i n) (λ i. eqb (length (recordAt t i)) elementWidth)
+      (λ i h. true-T (eq-eqb (length (recordAt t i)) elementWidth (record-length t n i long (ltb→lt i n h)))) σ (order-all n σ o)
 
   pub reordered-table : TableReordered n σ t (reordered σ t)
   unfolding reordered laid

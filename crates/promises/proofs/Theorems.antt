@@ -9,6 +9,7 @@ use Prim.Native.Nat.{ℕ, _+_, _*_, _≤_, _<_}
 use lib.Dec.{T}
 use lib.IntN.{ℤ}
 use lib.ListN.{length, getD}
+use Rattle.limits.specs.Limits.{elementLimit, elementWidth}
 use Rattle.laws.specs.Words.{every, among}
 use Rattle.laws.specs.Lent.{laid}
 use Rattle.laws.proofs.EveryLaws.{every-implies}
@@ -22,10 +23,9 @@ use Rattle.solids.specs.Fit.{sameSet}
 use Rattle.solids.specs.Surface.{SurfaceCut, CutAlike}
 use Rattle.solids.specs.Listings.{isOrder, asElement}
 use Rattle.solids.proofs.Theorems.{again-cut}
-use Rattle.records.specs.Record.{width, kindOf, usedOf, solidOf, elementOf, recordFinding, recordAt, elementAt, firstElements}
-use Rattle.records.specs.Loops.{isNumber, Whole, WholeTable}
+use Rattle.records.specs.Record.{kindOf, usedOf, solidOf, elementOf, recordFinding, recordAt, elementAt, firstElements}
+use Rattle.records.specs.WholeRecords.{isNumber, Whole, WholeTable}
 use Rattle.records.proofs.Theorems.{whole-proper}
-use Rattle.records.specs.Limits.{elementLimit}
 use Rattle.judging.specs.declared.JudgeAnswer.{JudgeAnswer}
 use Rattle.judging.specs.declared.JudgeAnswer.the-variants as judge
 use Rattle.mesh.specs.declared.CutCounts.{CutCounts}
@@ -121,7 +121,7 @@ relisted-sign-report v n t t′ w table r s p q = sign-unique v n t′ table r s
 -- ---- 4. Reordering
 
 -- every order of the records of a table is one of these
-pub reordered-table : (n : ℕ) (σ t : List ℕ) → T (isOrder n σ) → width * n ≤ length t → TableReordered n σ t (reordered σ t)
+pub reordered-table : (n : ℕ) (σ t : List ℕ) → T (isOrder n σ) → elementWidth * n ≤ length t → TableReordered n σ t (reordered σ t)
 reordered-table = ReorderedTables.reordered-table
 
 -- a table with its records in another order is accepted exactly if it was

@@ -7,11 +7,11 @@ use mathlib.Core.Bool.{true, false}
 use mathlib.Core.List.{List, [], _∷_, _++_}
 use lib.IntN.{ℤ}
 use lib.ListN.{length, take}
+use Rattle.limits.specs.Limits.{fileLimit, vertexWidth, elementWidth}
 use Rattle.laws.specs.Lent.{laid}
 use Rattle.faults.specs.Refusals.{accepted}
 use Rattle.volume.specs.Volume.{pointAt}
 use Rattle.records.specs.Record.{recordAt}
-use Rattle.text.specs.Constants.{fileLimit, vertexWidth, elementWidth}
 use Rattle.text.specs.Line.{markOf, roleOf, lineVerdict}
 use Rattle.text.specs.File.{fileVerdict}
 use Rattle.text.specs.Records.{vertexRecords, elementRecords, storedVertices, storedElements, ReadDone}

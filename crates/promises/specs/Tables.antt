@@ -4,6 +4,7 @@ use mathlib.Core.List.{List, [], _∷_, map}
 use Prim.Native.Nat.{ℕ, zero, suc, _*_, _≤_, _<_}
 use lib.Dec.{T}
 use lib.ListN.{length, getD, drop}
+use Rattle.limits.specs.Limits.{tetrahedronWidth, elementWidth}
 use Rattle.laws.specs.Words.{gather}
 use Rattle.laws.specs.Lent.{laid}
 use Rattle.solids.specs.Solids.{Place, Vertex, Tri, Tet, tet, Element, at}
@@ -11,8 +12,7 @@ use Rattle.solids.specs.Cut.{cutFace, cut}
 use Rattle.solids.specs.Fit.{outerFaces}
 use Rattle.solids.specs.Surface.{back, times, owners}
 use Rattle.solids.specs.Listings.{Relists, isOrder, picked}
-use Rattle.records.specs.Limits.{tetrahedronWidth}
-use Rattle.records.specs.Record.{width, kindOf, usedOf, spareOf, recordOf, asRecord, elementOf, recordAt}
+use Rattle.records.specs.Record.{kindOf, usedOf, spareOf, recordOf, asRecord, elementOf, recordAt}
 
 -- ---- relisting
 
@@ -65,7 +65,7 @@ asTable ts = gather asRecord ts
 
 -- t begins with the tetrahedra as element records, whatever stands behind them
 pub record BeginsWith (ts : List (Tet Vertex)) (t : List ℕ) : Type 0 where
-  pub long : width * length ts ≤ length t
+  pub long : elementWidth * length ts ≤ length t
   pub each : (k : ℕ) → k < length ts → recordAt t k ≡ asRecord (getD ts k (tet 0 0 0 0))
 
 -- the first k tetrahedra that stand in a memory, four vertex numbers each

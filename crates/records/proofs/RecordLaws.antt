@@ -12,6 +12,7 @@ use lib.Dec.{T, eqb, ltb, leb, eqb→eq, ltb→lt, leb→le, lt→ltb, le→leb}
 use lib.ListN.{length, getD, take, drop, length-append, length-take, length-drop, take-append-drop, drop-of-length-le, List·getD-eq-default, List·getD-append}
 use lib.Seq.{take-all, drop-drop, drop-cons, drop-length, getD-take, getD-drop, getD-at, take-at, drop-at, length-take-le, ext-getD}
 use borrow.Author.Tests.{eq-eqb, ne-eqb, eqb-true, eqb-false, ltb-false, le-ltb, not-false}
+use Rattle.limits.specs.Limits.{elementWidth}
 use Rattle.laws.specs.Words.{every, some, distinct}
 use Rattle.laws.proofs.TestLaws.{T-true, true-T, and-left, and-right, and-both}
 use Rattle.laws.proofs.WordLaws.{part-from}
@@ -22,8 +23,8 @@ use Rattle.faults.specs.declared.Finding.{Finding}
 use Rattle.faults.specs.declared.Finding.the-variants.{Clean, Found}
 use Rattle.solids.specs.Solids.{Element, corners, at}
 use Rattle.solids.specs.Fit.{proper}
-use Rattle.records.specs.Record.{width, kindOf, numbersOf, usedOf, spareOf, recordOf, cornerAt, isKind, solidOf, elementOf, strayVertex, notZero, recordFinding, recordAt, elementAt, firstElements}
-use Rattle.records.specs.Loops.{isNumber, Faultless, Whole, WholeTable}
+use Rattle.records.specs.Record.{kindOf, numbersOf, usedOf, spareOf, recordOf, cornerAt, isKind, solidOf, elementOf, strayVertex, notZero, recordFinding, recordAt, elementAt, firstElements}
+use Rattle.records.specs.WholeRecords.{isNumber, Faultless, Whole, WholeTable}
 
 -- the four kinds, one by one
 pub data IsOne (k : ℕ) : Type 0 where
@@ -66,7 +67,7 @@ kind-small k h = go (which-kind k h)
     go (is-6 e) = omega arith
     go (is-8 e) = omega arith
 
-pub numbers-length : (r : List ℕ) → length r ≡ width → length (numbersOf r) ≡ 8
+pub numbers-length : (r : List ℕ) → length r ≡ elementWidth → length (numbersOf r) ≡ 8
 unfolding numbersOf
 numbers-length r h = simp (length-take, length-drop, h) refl
 
@@ -112,7 +113,7 @@ corner-used r (suc i) h = sym (getD-take (kindOf r) (numbersOf r) i 0 h)
 
 -- ---- the parts of nine numbers
 
-module _ (r : List ℕ) (wide : length r ≡ width) where
+module _ (r : List ℕ) (wide : length r ≡ elementWidth) where
   all-numbers : numbersOf r ≡ drop 1 r
   unfolding numbersOf
   all-numbers = take-all 8 (drop 1 r) (let e = length-drop 1 r in omega arith)
@@ -142,7 +143,7 @@ module _ (k : ℕ) (used spare : List ℕ) (many : length used ≡ k) (eight : l
   unfolding numbersOf
   made-numbers = take-all 8 (used ++ spare) (let e = length-append used spare in omega arith)
 
-  pub made-length : length (recordOf k used spare) ≡ width
+  pub made-length : length (recordOf k used spare) ≡ elementWidth
   made-length = let e = length-append used spare in omega arith
 
   pub made-kind : kindOf (recordOf k used spare) ≡ k
@@ -161,33 +162,33 @@ module _ (k : ℕ) (used spare : List ℕ) (many : length used ≡ k) (eight : l
 
 -- the first fault, by the tests that lead to it
 module _ (limit : ℕ) (r : List ℕ) where
-  pub finding-short : (length r ≡ width → ⊥) → Found Kind ≡ recordFinding limit r
+  pub finding-short : (length r ≡ elementWidth → ⊥) → Found Kind ≡ recordFinding limit r
   unfolding recordFinding
-  finding-short n = rw (ne-eqb (length r) width n)
+  finding-short n = rw (ne-eqb (length r) elementWidth n)
 
-  module _ (wide : length r ≡ width) where
+  module _ (wide : length r ≡ elementWidth) where
     pub finding-kind : isKind (kindOf r) ≡ false → Found Kind ≡ recordFinding limit r
     unfolding recordFinding
-    finding-kind k = rw (eq-eqb (length r) width wide, k)
+    finding-kind k = rw (eq-eqb (length r) elementWidth wide, k)
 
     module _ (kind : isKind (kindOf r) ≡ true) where
       pub finding-vertex : some (strayVertex limit) (usedOf r) ≡ true → Found Vertex ≡ recordFinding limit r
       unfolding recordFinding
-      finding-vertex v = rw (eq-eqb (length r) width wide, kind, v)
+      finding-vertex v = rw (eq-eqb (length r) elementWidth wide, kind, v)
 
       module _ (vertex : some (strayVertex limit) (usedOf r) ≡ false) where
         pub finding-spare : some notZero (spareOf r) ≡ true → Found Spare ≡ recordFinding limit r
         unfolding recordFinding
-        finding-spare s = rw (eq-eqb (length r) width wide, kind, vertex, s)
+        finding-spare s = rw (eq-eqb (length r) elementWidth wide, kind, vertex, s)
 
         module _ (spare : some notZero (spareOf r) ≡ false) where
           pub finding-repeat : distinct (usedOf r) ≡ false → Found Repeat ≡ recordFinding limit r
           unfolding recordFinding
-          finding-repeat d = rw (eq-eqb (length r) width wide, kind, vertex, spare, d)
+          finding-repeat d = rw (eq-eqb (length r) elementWidth wide, kind, vertex, spare, d)
 
           pub finding-clean : distinct (usedOf r) ≡ true → Clean ≡ recordFinding limit r
           unfolding recordFinding
-          finding-clean d = rw (eq-eqb (length r) width wide, kind, vertex, spare, d)
+          finding-clean d = rw (eq-eqb (length r) elementWidth wide, kind, vertex, spare, d)
 
 -- a finding past a test that may have found a fault
 past : (b : Bool) (f : Fault) {next : Finding} → cond b (Found f) next ≡ Clean → (b ≡ false) × (next ≡ Clean)
@@ -218,15 +219,15 @@ module _ (limit : ℕ) (r : List ℕ) where
   pub clean-faultless : recordFinding limit r ≡ Clean → Faultless limit r
   unfolding recordFinding
   clean-faultless e =
-      let shape = eqb (length r) width && isKind (kindOf r) in
+      let shape = eqb (length r) elementWidth && isKind (kindOf r) in
       let a = past (not shape) Kind e in
       let b = past (some (strayVertex limit) (usedOf r)) Vertex (a .1) in
       let c = past (some notZero (spareOf r)) Spare (b .1) in
       let d = past (not (distinct (usedOf r))) Repeat (c .1) in
       let s : T shape = true-T (not-false shape (a .0)) in
       record {
-        wide = eqb→eq (length r) width (and-left (eqb (length r) width) (isKind (kindOf r)) s);
-        kind = and-right (eqb (length r) width) (isKind (kindOf r)) s;
+        wide = eqb→eq (length r) elementWidth (and-left (eqb (length r) elementWidth) (isKind (kindOf r)) s);
+        kind = and-right (eqb (length r) elementWidth) (isKind (kindOf r)) s;
         inside = every-follows (isNumber limit) (strayVertex limit) (not-stray limit) (usedOf r) (b .0);
         unused = every-follows (eqb 0) notZero is-zero (spareOf r) (c .0);
         apart = true-T (not-false (distinct (usedOf r)) (d .0));
@@ -261,29 +262,29 @@ module _ (limit : ℕ) (r : List ℕ) where
 -- ---- the records of a table
 
 -- the code's part of a table
-pub record-part : (t : List ℕ) (k : ℕ) → take (width * k + width - width * k) (drop (width * k) t) ≡ recordAt t k
+pub record-part : (t : List ℕ) (k : ℕ) → take (elementWidth * k + elementWidth - elementWidth * k) (drop (elementWidth * k) t) ≡ recordAt t k
 unfolding recordAt
 record-part t k =
-    let e : width * k + width - width * k ≡ width = omega arith in
+    let e : elementWidth * k + elementWidth - elementWidth * k ≡ elementWidth = omega arith in
     rw e
 
 -- where the table ends before the record does
-pub record-short : (t : List ℕ) (k : ℕ) → length t - width * k < width → take (length t - width * k) (drop (width * k) t) ≡ recordAt t k
+pub record-short : (t : List ℕ) (k : ℕ) → length t - elementWidth * k < elementWidth → take (length t - elementWidth * k) (drop (elementWidth * k) t) ≡ recordAt t k
 unfolding recordAt
 record-short t k h =
-    part-from t (width * k) ∙ sym (take-all width (drop (width * k) t) (let e = length-drop (width * k) t in omega arith))
+    part-from t (elementWidth * k) ∙ sym (take-all elementWidth (drop (elementWidth * k) t) (let e = length-drop (elementWidth * k) t in omega arith))
 
 -- where it ends before the record starts
-pub record-beyond : (t : List ℕ) (k : ℕ) → length t / width < k → take (length t - length t) (drop (length t) t) ≡ recordAt t k
+pub record-beyond : (t : List ℕ) (k : ℕ) → length t / elementWidth < k → take (length t - length t) (drop (length t) t) ≡ recordAt t k
 unfolding recordAt
 record-beyond t k h =
-    part-from t (length t) ∙ drop-length t ∙ sym (ap (take width) (drop-of-length-le t {i = width * k} (omega arith)))
+    part-from t (length t) ∙ drop-length t ∙ sym (ap (take elementWidth) (drop-of-length-le t {i = elementWidth * k} (omega arith)))
 
 -- where the table is long enough for n records, each of them has nine numbers
-pub record-length : (t : List ℕ) (n k : ℕ) → width * n ≤ length t → k < n → length (recordAt t k) ≡ width
+pub record-length : (t : List ℕ) (n k : ℕ) → elementWidth * n ≤ length t → k < n → length (recordAt t k) ≡ elementWidth
 unfolding recordAt
 record-length t n k long below =
-    length-take-le width (drop (width * k) t) (let e = length-drop (width * k) t in omega arith)
+    length-take-le elementWidth (drop (elementWidth * k) t) (let e = length-drop (elementWidth * k) t in omega arith)
 
 -- ---- the elements of a table
 

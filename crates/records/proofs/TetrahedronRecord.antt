@@ -8,12 +8,13 @@ use native.Mathlib.Omega.{arith}
 use lib.Dec.{T, eqb}
 use lib.ListN.{length}
 use borrow.Author.Tests.{eq-eqb}
+use Rattle.limits.specs.Limits.{elementWidth}
 use Rattle.laws.specs.Words.{every, distinct}
 use Rattle.laws.proofs.TestLaws.{true-T, and-left, and-right}
 use Rattle.solids.specs.Solids.{Vertex, Tet, tet, Element, element, ofTet}
 use Rattle.solids.specs.Listings.{asElement}
-use Rattle.records.specs.Record.{width, kindOf, usedOf, spareOf, isKind, solidOf, elementOf, asRecord}
-use Rattle.records.specs.Loops.{isNumber, Faultless}
+use Rattle.records.specs.Record.{kindOf, usedOf, spareOf, isKind, solidOf, elementOf, asRecord}
+use Rattle.records.specs.WholeRecords.{isNumber, Faultless}
 use Rattle.records.proofs.Theorems.{made-length, made-kind, made-used, made-spare}
 
 abbrev zeros : List ℕ
@@ -26,7 +27,7 @@ module _ (u : Tet Vertex) where
   eight : length (ofTet u) + length zeros ≡ 8
   eight = let e = four-corners u in omega arith
 
-  wide : length (asRecord u) ≡ width
+  wide : length (asRecord u) ≡ elementWidth
   wide = made-length 4 (ofTet u) zeros (four-corners u) eight
 
   kind : kindOf (asRecord u) ≡ 4
@@ -38,8 +39,8 @@ module _ (u : Tet Vertex) where
   spare : spareOf (asRecord u) ≡ zeros
   spare = made-spare 4 (ofTet u) zeros (four-corners u) eight
 
-  pub record-wide : T (eqb (length (asRecord u)) width)
-  record-wide = true-T (eq-eqb (length (asRecord u)) width wide)
+  pub record-wide : T (eqb (length (asRecord u)) elementWidth)
+  record-wide = true-T (eq-eqb (length (asRecord u)) elementWidth wide)
 
   pub record-element : elementOf (asRecord u) ≡ asElement u
   unfolding elementOf solidOf

@@ -6,6 +6,7 @@ use mathlib.Core.List.{List, _∷_, _++_, List·Memᴰ}
 use Prim.Native.Nat.{ℕ, _+_, _*_, _≤_, _<_}
 use lib.Dec.{T, eqb}
 use lib.ListN.{length, getD}
+use Rattle.limits.specs.Limits.{elementWidth}
 use Rattle.laws.specs.Words.{every, gather, among}
 use Rattle.faults.specs.declared.Finding.{Finding}
 use Rattle.faults.specs.declared.Finding.the-variants.{Clean}
@@ -13,8 +14,8 @@ use Rattle.solids.specs.declared.Solid.{Solid}
 use Rattle.solids.specs.declared.Vertex.{Vertex}
 use Rattle.solids.specs.Solids.{Element, cornersOf, at}
 use Rattle.solids.specs.Fit.{proper}
-use Rattle.records.specs.Record.{width, kindOf, usedOf, spareOf, recordOf, cornerAt, solidOf, elementOf, recordFinding, recordAt, elementAt, firstElements, recordCount}
-use Rattle.records.specs.Loops.{isNumber, Faultless, Whole, WholeTable}
+use Rattle.records.specs.Record.{kindOf, usedOf, spareOf, recordOf, cornerAt, solidOf, elementOf, recordFinding, recordAt, elementAt, firstElements, recordCount}
+use Rattle.records.specs.WholeRecords.{isNumber, Faultless, Whole, WholeTable}
 use Rattle.records.proofs.RecordLaws as L
 use Rattle.records.proofs.GatheredLaws as G
 
@@ -76,11 +77,11 @@ unfolding elementOf
 corner-of-element = L.corner-used
 
 -- nine numbers are a kind, the used vertex numbers and the unused ones
-pub record-parts : (r : List ℕ) → length r ≡ width → r ≡ kindOf r ∷ (usedOf r ++ spareOf r)
+pub record-parts : (r : List ℕ) → length r ≡ elementWidth → r ≡ kindOf r ∷ (usedOf r ++ spareOf r)
 record-parts = L.record-parts
 
 -- a record made of a kind, as many vertex numbers and the unused ones has these parts
-pub made-length : (k : ℕ) (used spare : List ℕ) → length used ≡ k → length used + length spare ≡ 8 → length (recordOf k used spare) ≡ width
+pub made-length : (k : ℕ) (used spare : List ℕ) → length used ≡ k → length used + length spare ≡ 8 → length (recordOf k used spare) ≡ elementWidth
 made-length = L.made-length
 
 pub made-kind : (k : ℕ) (used spare : List ℕ) → length used ≡ k → length used + length spare ≡ 8 → kindOf (recordOf k used spare) ≡ k
@@ -94,7 +95,7 @@ made-spare = L.made-spare
 
 -- ---- a table
 
-pub record-length : (t : List ℕ) (n k : ℕ) → width * n ≤ length t → k < n → length (recordAt t k) ≡ width
+pub record-length : (t : List ℕ) (n k : ℕ) → elementWidth * n ≤ length t → k < n → length (recordAt t k) ≡ elementWidth
 record-length = L.record-length
 
 -- n elements, each in its place, and proper where the table is whole
@@ -121,9 +122,9 @@ pub first-proper : (t : List ℕ) (n : ℕ) → WholeTable t n → T (every prop
 first-proper = L.first-proper
 
 -- records that f makes, one after the other: their numbers, and the record at an index, whatever stands behind them
-pub gathered-length : {A : Type 0} (f : A → List ℕ) (l : List A) → T (every (λ x. eqb (length (f x)) width) l) → length (gather f l) ≡ width * length l
+pub gathered-length : {A : Type 0} (f : A → List ℕ) (l : List A) → T (every (λ x. eqb (length (f x)) elementWidth) l) → length (gather f l) ≡ elementWidth * length l
 gathered-length = G.gathered-length
 
-pub gathered-at : {A : Type 0} (f : A → List ℕ) (d : A) (l : List A) (rest : List ℕ) (k : ℕ) → T (every (λ x. eqb (length (f x)) width) l) → k < length l
+pub gathered-at : {A : Type 0} (f : A → List ℕ) (d : A) (l : List A) (rest : List ℕ) (k : ℕ) → T (every (λ x. eqb (length (f x)) elementWidth) l) → k < length l
     → recordAt (gather f l ++ rest) k ≡ f (getD l k d)
 gathered-at = G.gathered-at

@@ -1,4 +1,3 @@
 -- The page's element record, and how it is judged.
-pub mod Limits
 pub mod Record
-pub mod Loops
+pub mod WholeRecords

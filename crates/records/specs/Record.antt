@@ -5,6 +5,7 @@ use mathlib.Core.List.{List, [], _∷_, _++_}
 use Prim.Native.Nat.{ℕ, zero, suc, _*_, _/_}
 use lib.Dec.{eqb, ltb}
 use lib.ListN.{length, getD, take, drop}
+use Rattle.limits.specs.Limits.{elementWidth, cornerWidth}
 use Rattle.laws.specs.Words.{some, distinct}
 use Rattle.faults.specs.declared.Fault.the-variants as fault
 use Rattle.faults.specs.declared.Finding.{Finding}
@@ -13,17 +14,13 @@ use Rattle.solids.specs.declared.Solid.{Solid}
 use Rattle.solids.specs.declared.Solid.the-variants.{Tetrahedron, Pyramid, Prism, Hexahedron}
 use Rattle.solids.specs.Solids.{Place, Vertex, Tet, ofTet, Element, element, at}
 
--- how many numbers a record has
-abbrev pub width : ℕ
-width = 9
-
 -- the kind, which is the corner count
 unfoldable pub kindOf : List ℕ → ℕ
 kindOf r = getD r 0 0
 
 -- the eight vertex numbers
 unfoldable pub numbersOf : List ℕ → List ℕ
-numbersOf r = take 8 (drop 1 r)
+numbersOf r = take cornerWidth (drop 1 r)
 
 -- the vertex numbers of the corners
 unfoldable pub usedOf : List ℕ → List ℕ
@@ -69,7 +66,7 @@ notZero v = not (eqb v 0)
 -- what is not nine numbers is KIND
 unfoldable pub recordFinding : ℕ → List ℕ → Finding
 recordFinding limit r =
-    cond (not (eqb (length r) width && isKind (kindOf r))) (Found fault.Kind)
+    cond (not (eqb (length r) elementWidth && isKind (kindOf r))) (Found fault.Kind)
     (cond (some (strayVertex limit) (usedOf r)) (Found fault.Vertex)
     (cond (some notZero (spareOf r)) (Found fault.Spare)
     (cond (not (distinct (usedOf r))) (Found fault.Repeat)
@@ -77,11 +74,11 @@ recordFinding limit r =
 
 -- how many whole records a table holds
 unfoldable pub recordCount : List ℕ → ℕ
-recordCount t = length t / width
+recordCount t = length t / elementWidth
 
 -- the record k of a table, from 0
 unfoldable pub recordAt : List ℕ → ℕ → List ℕ
-recordAt t k = take width (drop (width * k) t)
+recordAt t k = take elementWidth (drop (elementWidth * k) t)
 
 -- the element k of a table, from 0
 unfoldable pub elementAt : List ℕ → ℕ → Element

@@ -4,14 +4,11 @@ ghost use Rattle.laws.specs.Words.{some, among, distinct};
 ghost use Rattle.records.specs.Record.{kindOf, isKind, solidOf, cornerAt, strayVertex, notZero, recordFinding, recordCount, recordAt};
 use faults::Fault;
 use faults::Finding;
+use limits::CORNER_WIDTH;
+use limits::ELEMENT_WIDTH;
 use solids::Place;
 use solids::Solid;
 use solids::Vertex;
-
-// How many numbers a record has, and how many of them are vertex numbers.
-pub const WIDTH: usize = 9;
-
-const NUMBERS: usize = 8;
 
 // The solid of a kind; any other number is refused before its solid is asked for.
 pub fn solid_of(kind: u16) -> Solid
@@ -48,7 +45,7 @@ pub fn corner(element: &[u16], place: Place) -> Vertex
     if at == 0 {
         return Vertex(0);
     }
-    if NUMBERS < at {
+    if CORNER_WIDTH < at {
         return Vertex(0);
     }
     if element.len() <= at {
@@ -61,7 +58,7 @@ pub fn corner(element: &[u16], place: Place) -> Vertex
 pub fn record_count(table: &[u16]) -> usize
     ensures { λ r. ⌜ r ≡ recordCount (now (table .entry)) ⌝ }
 {
-    table.len() / WIDTH
+    table.len() / ELEMENT_WIDTH
 }
 
 // The record k of a table, from 0; where the table ends before it does, what there is of it.
@@ -69,14 +66,14 @@ pub fn record_at(table: &[u16], k: usize) -> &[u16]
     ensures { λ r. ⌜ now r ≡ recordAt (now (table .entry)) k ⌝ }
 {
     let len = table.len();
-    if len / WIDTH < k {
+    if len / ELEMENT_WIDTH < k {
         return &table[len..];
     }
-    let start = WIDTH * k;
-    if len - start < WIDTH {
+    let start = ELEMENT_WIDTH * k;
+    if len - start < ELEMENT_WIDTH {
         return &table[start..];
     }
-    let end = start + WIDTH;
+    let end = start + ELEMENT_WIDTH;
     &table[start..end]
 }
 
@@ -160,7 +157,7 @@ fn is_distinct(numbers: &[u16]) -> bool
 pub fn judge_record(element: &[u16], limit: usize) -> Finding
     ensures { λ r. ⌜ r ≡ recordFinding limit (now (element .entry)) ⌝ }
 {
-    if element.len() != WIDTH {
+    if element.len() != ELEMENT_WIDTH {
         return Finding::Found(Fault::Kind);
     }
     let kind = element[0];

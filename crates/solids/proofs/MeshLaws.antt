@@ -16,13 +16,9 @@ use Rattle.solids.specs.Fit.{proper, sameSet, fits, fitting, isOuter}
 use Rattle.solids.specs.Surface.{sides, back, sameTri, times, owners, Piece, Closed, Agreeing, wholes, allTets, outerTriangles, SurfaceOf}
 use Rattle.laws.proofs.TestLaws.{and-left, and-right}
 use Rattle.laws.proofs.EveryLaws.{every-at, count-append}
+use Rattle.laws.proofs.ListLaws.{gather-append}
 use Rattle.solids.proofs.MeetLaws.{Meet, meet-sym, fits-meet}
 use Rattle.solids.proofs.PairLaws.{Good, good, total, total-mem, times-gather, alone, faced, crossed}
-
-module _ {A B : Type 0} (f : A → List B) where
-  pub gather-append : (l m : List A) → gather f (l ++ m) ≡ gather f l ++ gather f m
-  gather-append [] m = refl
-  gather-append (x ∷ l) m = ap (λ (k : List B). f x ++ k) (gather-append l m) ∙ sym (append-assoc (f x) (gather f l) (gather f m))
 
 module _ {A : Type 0} where
   pub keep-append : (P : A → Bool) (l m : List A) → keep P (l ++ m) ≡ keep P l ++ keep P m

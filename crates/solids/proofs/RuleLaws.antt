@@ -6,6 +6,7 @@ use mathlib.Core.List.{List, [], _∷_, _++_, map, List·Memᴰ, Memᴰ·of-map}
 use Prim.Native.Nat.{ℕ, _-_, _≤_}
 use lib.Dec.{T}
 use Rattle.laws.specs.Words.{gather, every, keep}
+use Rattle.laws.proofs.ListLaws.{gather-append}
 use Rattle.laws.proofs.TestLaws.{and-left, and-right}
 use Rattle.laws.proofs.EveryLaws.{every-at}
 use Rattle.solids.specs.Solids.{Face, Tri, Tet, Element, element, facesOf}
@@ -16,7 +17,7 @@ use Rattle.solids.proofs.ShapeLaws.{from-proper}
 use Rattle.solids.proofs.CycleLaws.{FaceApart, test-cycle, times-across}
 use Rattle.solids.proofs.ClosedElement.{once-f, surface-f, flat-f}
 use Rattle.solids.proofs.FaceFacts.{owned, apart₃-distinct, face-apart, cut-within}
-use Rattle.solids.proofs.MeshLaws.{gather-append, keep-append, surface-of}
+use Rattle.solids.proofs.MeshLaws.{keep-append, surface-of}
 
 -- THE LOCAL THEOREM
 pub rule-closed : (e : Element) → T (proper e) → Closed (byRule e)

@@ -7,10 +7,10 @@ use mathlib.Core.Bool.{false}
 use mathlib.Core.List.{List, [], _∷_}
 use lib.ListN.{length, length-append}
 use borrow.Author.Tests.{ltb-false, leb-false}
+use Rattle.limits.specs.Limits.{fileLimit, vertexLimit, elementLimit}
 use Rattle.laws.specs.Pieces.{Pieces, rest, piece}
 use Rattle.faults.specs.Refusals.{accepted}
 use Rattle.faults.specs.declared.Fault.the-variants as fault
-use Rattle.text.specs.Constants.{fileLimit, vertexLimit, elementLimit}
 use Rattle.text.specs.Line.{markOf, roleOf, tooMany, noRoom, afterRole, after}
 use Rattle.text.specs.File.{start, linesOf, fileVerdict}
 use Rattle.text.specs.Records.{vertexRecords, elementRecords, recordsFrom}

@@ -8,12 +8,12 @@ use mathlib.Core.List.{List, [], _∷_}
 use lib.Dec.{eqb, leb}
 use lib.ListN.{length, getD, drop}
 use borrow.Author.Tests.{eqb-true, eqb-false, not-false}
+use Rattle.limits.specs.Limits.{lineEnd, space, comma, minus, point, digit0, numberDigits, markWidth}
 use Rattle.laws.specs.Pieces.{Pieces, rest, piece, push, split}
 use Rattle.laws.proofs.PieceLaws.{Free}
 use Rattle.faults.specs.Refusals.{accepted}
 use Rattle.faults.specs.declared.Fault.{Fault}
 use Rattle.faults.specs.declared.Fault.the-variants as fault
-use Rattle.text.specs.Constants.{lineEnd, space, comma, minus, point, digit0, numberDigits, markWidth}
 use Rattle.text.specs.Number.{cut, spelt, whole, numberOf, unsigned, coordinateOf}
 use Rattle.text.specs.Line.{markWith, markOf, roleOf, wants, fieldsOf, areFields, first, judgeCoordinate, judgeCount, judgeVertex, fieldVerdict, fieldsVerdict, badMark, badShape, after}
 use Rattle.text.specs.File.{fileVerdict}

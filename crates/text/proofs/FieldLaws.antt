@@ -11,9 +11,9 @@ use mathlib.Core.List.{List, [], _∷_, append-nil}
 use lib.Dec.{eqb, eqb·suc-suc}
 use lib.ListN.{length, take, drop, drop-of-length-le}
 use lib.Seq.{sets, sets-eq, take-all, length-take-le}
+use Rattle.limits.specs.Limits.{space}
 use Rattle.laws.specs.Pieces.{Pieces, rest, piece, split, FirstAt}
 use Rattle.faults.specs.declared.Fault.{Fault}
-use Rattle.text.specs.Constants.{space}
 use Rattle.text.specs.Line.{some, areFields, firstOf, first, fieldVerdict, fieldsVerdict}
 use Rattle.text.specs.declared.terms.Role.{Role}
 use Rattle.text.specs.declared.terms.Judged.the-variants.{Failed}

@@ -8,12 +8,12 @@ use mathlib.Core.List.{List, [], _∷_}
 use lib.Dec.{ltb}
 use lib.ListN.{length, take, drop}
 use borrow.Author.Tests.{ltb-false}
+use Rattle.limits.specs.Limits.{lineEnd, fileLimit}
 use Rattle.laws.specs.Pieces.{Pieces, rest, piece, split, FirstAt}
 use Rattle.faults.specs.Refusals.{Verdict, accepted, refused, refuse}
 use Rattle.faults.specs.declared.Fault.{Fault}
 use Rattle.faults.specs.declared.Fault.the-variants as fault
 use Rattle.faults.specs.declared.Refusal.{Refusal}
-use Rattle.text.specs.Constants.{lineEnd, fileLimit}
 use Rattle.text.specs.Line.{markOf, roleOf, wants, fieldsOf, fieldsVerdict, badMark, tooMany, badShape, noRoom, badCounts, after, given, judged, lineVerdict}
 use Rattle.text.specs.File.{start, linesOf, atEnd, onward, fileFrom, fileVerdict}
 use Rattle.text.specs.Loops.{openFault}

@@ -8,12 +8,12 @@ use mathlib.Core.List.{List, [], _∷_, _++_, append-nil}
 use lib.IntN.{ℤ}
 use lib.ListN.{length, take, drop, length-drop}
 use borrow.Author.Tests.{leb-false, le-ltb}
+use Rattle.limits.specs.Limits.{lineEnd, fileLimit, vertexLimit, elementLimit}
 use Rattle.laws.specs.Pieces.{split, FirstAt}
 use Rattle.faults.specs.Refusals.{accepted, refused, refuse}
 use Rattle.faults.specs.declared.Fault.{Fault}
 use Rattle.faults.specs.declared.Fault.the-variants as fault
 use Rattle.faults.specs.declared.Refusal.{Refusal}
-use Rattle.text.specs.Constants.{lineEnd, fileLimit, vertexLimit, elementLimit}
 use Rattle.text.specs.Line.{markOf, roleOf, tooMany, afterRole, after, lineVerdict}
 use Rattle.text.specs.File.{start, linesOf, atEnd, fileFrom, fileVerdict}
 use Rattle.text.specs.Records.{vertexRecords, elementRecords, recordsFrom, verdictOf}

@@ -16,8 +16,8 @@ use mir.Syntax.{w32}
 use mir.Val.{SFits, toZ, ofZ}
 use mir.ValLaws.{toZ-pos, toZ-ofZ}
 use borrow.Author.Tests.{leb-true}
+use Rattle.limits.specs.Limits.{digit0, digit9, coordinateLimit}
 use Rattle.faults.specs.declared.Fault.the-variants as fault
-use Rattle.text.specs.Constants.{digit0, digit9, coordinateLimit}
 use Rattle.text.specs.Number.{appended, spelt, millimetres}
 use Rattle.text.specs.Loops.{Under}
 use Rattle.text.specs.declared.terms.Spelt.{Spelt}

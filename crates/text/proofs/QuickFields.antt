@@ -12,7 +12,7 @@ use lib.IntN.{ℤ}
 use lib.ListN.{length, take, drop, set, replicate, length-append, length-set}
 use lib.Seq.{take-set-le, take-suc-set}
 use borrow.Author.Tests.{ne-eqb, le-ltb}
-use Rattle.text.specs.Constants.{lineEnd, space, minus, digit0, fieldsAt}
+use Rattle.limits.specs.Limits.{lineEnd, space, minus, digit0, fieldsAt}
 use Rattle.text.specs.Number.{thousandthsOf, valueOf}
 use Rattle.text.specs.Line.{fieldVerdict}
 use Rattle.text.specs.QuickLoops.{CoordinateAt, NumberAt, Good, Each, ended, endOf, FieldsRead, Cleared}

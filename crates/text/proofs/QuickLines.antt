@@ -10,9 +10,9 @@ use lib.IntN.{ℤ}
 use lib.ListN.{length, getD, take, drop, set, replicate, length-append, length-set, length-replicate, length-map}
 use lib.Seq.{take-take, take-set-le, take-suc-set}
 use borrow.Author.Tests.{leb-false}
+use Rattle.limits.specs.Limits.{lineEnd, space, minus, fieldsAt, markWidth, vertexLimit, elementLimit, vertexWidth, elementWidth, cornerWidth}
 use Rattle.laws.specs.Pieces.{Pieces, rest, piece, split}
 use Rattle.laws.proofs.PieceLaws.{Free, split-joined, split-free}
-use Rattle.text.specs.Constants.{lineEnd, space, minus, fieldsAt, markWidth, vertexLimit, elementLimit, vertexWidth, elementWidth, cornerWidth}
 use Rattle.text.specs.Number.{thousandthsOf, numberOf, whole, valueOf}
 use Rattle.text.specs.Line.{markWith, markOf, roleOf, wants, fieldsOf, areFields, firstOf, fieldsVerdict, badMark, tooMany, badShape, noRoom, badCounts, afterRole, lineVerdict}
 use Rattle.text.specs.Records.{vertexRecord, tipFirst, cornerFields, elementRecord, vertexRecords, elementRecords}

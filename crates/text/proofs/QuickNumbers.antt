@@ -12,8 +12,8 @@ use lib.IntN.{pos, negℤ}
 use lib.ListN.{length, getD, drop, length-append, List·getD-append}
 use lib.Seq.{drop-cons, getD-drop}
 use borrow.Author.Tests.{leb-true, le-leb, eqb-true, eqb-false, eq-eqb, ne-eqb}
+use Rattle.limits.specs.Limits.{comma, minus, point, digit0, digit9, wholeDigits, decimalDigits, numberDigits, coordinateLimit}
 use Rattle.laws.proofs.PieceLaws.{Free, split-joined, split-free}
-use Rattle.text.specs.Constants.{comma, minus, point, digit0, digit9, wholeDigits, decimalDigits, numberDigits, coordinateLimit}
 use Rattle.text.specs.Number.{appended, onto, spelt, whole, decimals, millimetres, unsigned, coordinateOf, numberOf}
 use Rattle.text.specs.QuickLoops.{Above, DigitsAt, WholeAt, Within, DecimalsAt, MagnitudeAt, CoordinateAt, NumberAt, scaled, startOf}
 use Rattle.text.specs.declared.terms.Spelt.{Spelt}

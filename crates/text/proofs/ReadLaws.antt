@@ -6,9 +6,9 @@ use mathlib.Core.Path.{_≡_, sym, ap, _∙_}
 use mathlib.Core.List.{List, [], _∷_}
 use lib.ListN.{length, take}
 use lib.IntN.{ℤ}
+use Rattle.limits.specs.Limits.{vertexLimit, elementLimit, vertexWidth, elementWidth}
 use Rattle.laws.specs.Lent.{laid}
 use Rattle.faults.specs.Refusals.{answerOf}
-use Rattle.text.specs.Constants.{vertexLimit, elementLimit, vertexWidth, elementWidth}
 use Rattle.text.specs.File.{fileVerdict}
 use Rattle.text.specs.Records.{storedVertices, storedElements, verdictOf, roomsOf, ReadDone}
 use Rattle.text.specs.declared.ReadAnswer.{ReadAnswer}

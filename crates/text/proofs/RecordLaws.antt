@@ -8,9 +8,9 @@ use mathlib.Core.Bool.{Bool, true, false}
 use mathlib.Core.List.{List, [], _∷_, _++_, map, append-assoc}
 use lib.ListN.{length, take, getD}
 use lib.Seq.{sets}
+use Rattle.limits.specs.Limits.{lineEnd, vertexWidth, elementWidth, cornerWidth}
 use Rattle.laws.specs.Pieces.{piece, split}
 use Rattle.laws.proofs.LentLaws.{placed-sets, take-placed}
-use Rattle.text.specs.Constants.{lineEnd, vertexWidth, elementWidth, cornerWidth}
 use Rattle.text.specs.Number.{thousandthsOf}
 use Rattle.text.specs.Line.{markOf, roleOf, fieldsOf, numbersOf, afterRole, after}
 use Rattle.text.specs.Records.{vertexRecord, tipFirst, cornerFields, elementRecord, vertexRecords, elementRecords, recordsFrom}

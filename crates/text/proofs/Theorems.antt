@@ -12,6 +12,7 @@ use mathlib.Core.Bool.{true}
 use mathlib.Core.List.{List, [], _∷_}
 use lib.ListN.{length}
 use lib.IntN.{ℤ}
+use Rattle.limits.specs.Limits.{comma, vertexLimit, elementLimit, vertexWidth, elementWidth}
 use Rattle.laws.specs.Pieces.{split}
 use Rattle.laws.specs.Lent.{laid}
 use Rattle.laws.proofs.PieceLaws.{Free}
@@ -19,7 +20,6 @@ use Rattle.laws.proofs.LentLaws.{laid-none}
 use Rattle.faults.proofs.Theorems.{answer-tells-verdict}
 use Rattle.faults.specs.declared.Fault.the-variants as fault
 use Rattle.faults.specs.declared.Refusal.{Refusal}
-use Rattle.text.specs.Constants.{comma, vertexLimit, elementLimit, vertexWidth, elementWidth}
 use Rattle.text.specs.Number.{cut, coordinateOf}
 use Rattle.text.specs.File.{start, linesOf, fileVerdict}
 use Rattle.text.specs.Records.{vertexRecords, elementRecords, recordsFrom, storedVertices, storedElements, verdictOf, roomsOf, ReadDone}

@@ -4,10 +4,10 @@ use mathlib.Core.Bool.{true, false, cond}
 use mathlib.Core.List.{List, [], _∷_}
 use lib.ListN.{length}
 use lib.Dec.{ltb}
+use Rattle.limits.specs.Limits.{lineEnd, fileLimit}
 use Rattle.laws.specs.Pieces.{Pieces, rest, piece, split}
 use Rattle.faults.specs.Refusals.{Verdict, accepted, refused, refuse}
 use Rattle.faults.specs.declared.Fault.the-variants as fault
-use Rattle.text.specs.Constants.{lineEnd, fileLimit}
 use Rattle.text.specs.Line.{lineVerdict}
 use Rattle.text.specs.declared.terms.ReaderState.{ReaderState}
 use Rattle.text.specs.declared.terms.Rooms.{Rooms}

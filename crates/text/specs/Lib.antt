@@ -1,5 +1,4 @@
 -- The page's section "The text file", and what reading it says.
-pub mod Constants
 pub mod Number
 pub mod Line
 pub mod File

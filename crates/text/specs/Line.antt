@@ -7,10 +7,10 @@ use mathlib.Core.Bool.{Bool, true, false, cond, not, _&&_}
 use mathlib.Core.List.{List, [], _∷_}
 use lib.ListN.{getD, drop}
 use lib.Dec.{eqb, leb, ltb}
+use Rattle.limits.specs.Limits.{space, markWidth, fieldsAt, vertexLimit, elementLimit, vertexWidth, elementWidth, cornerWidth}
 use Rattle.laws.specs.Pieces.{Pieces, rest, piece, split}
 use Rattle.faults.specs.declared.Fault.{Fault}
 use Rattle.faults.specs.declared.Fault.the-variants as fault
-use Rattle.text.specs.Constants.{space, markWidth, fieldsAt, vertexLimit, elementLimit, vertexWidth, elementWidth, cornerWidth}
 use Rattle.text.specs.Number.{coordinateOf, numberOf, valueOf}
 use Rattle.text.specs.declared.terms.Mark.{Mark}
 use Rattle.text.specs.declared.terms.Mark.the-variants.{Vx, Te, Py, Pz, Pr, Hx, En, Unknown}

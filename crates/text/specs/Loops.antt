@@ -6,11 +6,11 @@ use mathlib.Core.List.{List, _++_}
 use lib.ListN.{length, take, drop}
 use lib.IntN.{ℤ}
 use lib.Seq.{sets}
+use Rattle.limits.specs.Limits.{lineEnd, numberDigits, fileLimit, vertexLimit, elementLimit, vertexWidth, elementWidth}
 use Rattle.laws.specs.Pieces.{piece, split}
 use Rattle.faults.specs.Refusals.{refused, refuse}
 use Rattle.faults.specs.declared.Fault.{Fault}
 use Rattle.faults.specs.declared.Fault.the-variants as fault
-use Rattle.text.specs.Constants.{lineEnd, numberDigits, fileLimit, vertexLimit, elementLimit, vertexWidth, elementWidth}
 use Rattle.text.specs.Number.{spelt, whole, numberOf}
 use Rattle.text.specs.Line.{markOf, roleOf, lineVerdict}
 use Rattle.text.specs.File.{start, linesOf, fileFrom, fileVerdict}

@@ -5,9 +5,9 @@ use mathlib.Core.List.{List, [], _∷_}
 use lib.ListN.{length, getD, drop}
 use lib.Dec.{eqb, leb}
 use lib.IntN.{ℤ, pos, negℤ}
+use Rattle.limits.specs.Limits.{comma, minus, point, digit0, digit9, coordinateLimit, wholeDigits, decimalDigits, numberDigits}
 use Rattle.laws.specs.Pieces.{Pieces, rest, piece, split}
 use Rattle.faults.specs.declared.Fault.the-variants as fault
-use Rattle.text.specs.Constants.{comma, minus, point, digit0, digit9, coordinateLimit, wholeDigits, decimalDigits, numberDigits}
 use Rattle.text.specs.declared.terms.Spelt.{Spelt}
 use Rattle.text.specs.declared.terms.Spelt.the-variants.{Of, Not}
 use Rattle.text.specs.declared.terms.Coordinate.{Coordinate}

@@ -7,8 +7,8 @@ use mathlib.Core.List.{List, [], _∷_, _++_, map}
 use lib.Dec.{eqb}
 use lib.ListN.{length, take, drop, set, replicate}
 use lib.IntN.{ℤ}
+use Rattle.limits.specs.Limits.{lineEnd, space, minus, point, digit0, fieldsAt, coordinateLimit, cornerWidth, vertexWidth, elementWidth}
 use Rattle.laws.specs.Pieces.{split}
-use Rattle.text.specs.Constants.{lineEnd, space, minus, point, digit0, fieldsAt, coordinateLimit, cornerWidth, vertexWidth, elementWidth}
 use Rattle.text.specs.Number.{spelt, whole, decimals, signed, unsigned, coordinateOf, numberOf, valueOf}
 use Rattle.text.specs.Line.{wants, roleOf, fieldVerdict, afterRole}
 use Rattle.text.specs.Records.{tipFirst}

@@ -5,10 +5,10 @@ use mathlib.Core.Bool.{Bool, true, false}
 use mathlib.Core.List.{List, [], _∷_, _++_, map}
 use lib.ListN.{length, getD}
 use lib.IntN.{ℤ}
+use Rattle.limits.specs.Limits.{vertexWidth}
 use Rattle.laws.specs.Pieces.{Pieces, rest, piece}
 use Rattle.laws.specs.Lent.{laid}
 use Rattle.faults.specs.Refusals.{Verdict, accepted, refused, answerOf}
-use Rattle.text.specs.Constants.{vertexWidth}
 use Rattle.text.specs.Number.{thousandthsOf}
 use Rattle.text.specs.Line.{markOf, roleOf, wants, fieldsOf, firstOf, numbersOf, after}
 use Rattle.text.specs.File.{start, linesOf, fileVerdict}

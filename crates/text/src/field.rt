@@ -1,8 +1,4 @@
 // The fields of a line: their number and spacing, what each says, and what is wrong with the first that is.
-use crate::constants::CORNER_WIDTH;
-use crate::constants::FIELDS_AT;
-use crate::constants::MARK_WIDTH;
-use crate::constants::SPACE;
 use crate::number::coordinate;
 use crate::number::number;
 use crate::number::value;
@@ -16,9 +12,13 @@ use crate::terms::ReaderState;
 use crate::terms::Role;
 use crate::terms::Spelt;
 use faults::Fault;
+use limits::CORNER_WIDTH;
+use limits::FIELDS_AT;
+use limits::MARK_WIDTH;
+use limits::SPACE;
 ghost use mathlib.Core.Path.{_≡_};
+ghost use Rattle.limits.specs.Limits.{space};
 ghost use Rattle.laws.specs.Pieces.{split};
-ghost use Rattle.text.specs.Constants.{space};
 ghost use Rattle.text.specs.Number.{coordinateOf, numberOf};
 ghost use Rattle.text.specs.Line.{areFields, badShape, numbersOf, judgeCoordinate, judgeCount, judgeVertex, fieldVerdict, fieldsVerdict};
 

@@ -1,10 +1,6 @@
 // The verdict on a whole file: its lines in order, each judged and kept, threading the reader's state.
 use crate::ReadAnswer;
 use crate::ReadCounts;
-use crate::constants::ELEMENT_NUMBERS;
-use crate::constants::FILE_LIMIT;
-use crate::constants::LINE_END;
-use crate::constants::VERTEX_NUMBERS;
 use crate::line::after;
 use crate::line::judge_line;
 use crate::line::open_line;
@@ -21,6 +17,10 @@ use crate::terms::Rooms;
 use crate::terms::Step;
 use faults::Fault;
 use faults::Refusal;
+use limits::ELEMENT_NUMBERS;
+use limits::FILE_LIMIT;
+use limits::LINE_END;
+use limits::VERTEX_NUMBERS;
 ghost use mathlib.Core.Path.{_≡_};
 ghost use Rattle.faults.specs.Refusals.{refused, refuse};
 ghost use Rattle.text.specs.File.{atEnd};

@@ -1,5 +1,4 @@
 // The text file: reading it into two lent tables.
-pub mod constants;
 mod field;
 mod file;
 mod line;
@@ -11,6 +10,10 @@ mod store;
 pub mod terms;
 
 use faults::Refusal;
+use limits::ELEMENT_NUMBERS;
+use limits::ELEMENT_WIDTH;
+use limits::VERTEX_NUMBERS;
+use limits::VERTEX_WIDTH;
 ghost use Rattle.text.specs.Records.{ReadDone};
 
 // How many vertices and elements the file gave.
@@ -33,12 +36,12 @@ pub fn read_mesh(file: &[u8], vertices: &mut [i32], elements: &mut [u16]) -> Rea
         vertices: vertices.len(),
         elements: elements.len(),
     };
-    let mut kept_vertices = [0i32; constants::VERTEX_NUMBERS];
-    let mut kept_elements = [0u16; constants::ELEMENT_NUMBERS];
+    let mut kept_vertices = [0i32; VERTEX_NUMBERS];
+    let mut kept_elements = [0u16; ELEMENT_NUMBERS];
     let answer = file::read_lines(file, rooms, &mut kept_vertices, &mut kept_elements);
     let counts = store::counts_of(answer);
-    let n = constants::VERTEX_WIDTH * counts.vertices;
-    let m = constants::ELEMENT_WIDTH * counts.elements;
+    let n = VERTEX_WIDTH * counts.vertices;
+    let m = ELEMENT_WIDTH * counts.elements;
     store::copy_coordinates(&kept_vertices, n, vertices);
     store::copy_numbers(&kept_elements, m, elements);
     answer

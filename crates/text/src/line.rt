@@ -1,9 +1,4 @@
 // The verdict on one line, in the page's order of tests, and the state after it.
-use crate::constants::ELEMENT_LIMIT;
-use crate::constants::ELEMENT_WIDTH;
-use crate::constants::FIELDS_AT;
-use crate::constants::VERTEX_LIMIT;
-use crate::constants::VERTEX_WIDTH;
 use crate::field::bad_shape;
 use crate::field::judge_fields;
 use crate::field::numbers;
@@ -17,10 +12,15 @@ use crate::terms::ReaderState;
 use crate::terms::Role;
 use crate::terms::Rooms;
 use faults::Fault;
+use limits::ELEMENT_LIMIT;
+use limits::ELEMENT_WIDTH;
+use limits::FIELDS_AT;
+use limits::VERTEX_LIMIT;
+use limits::VERTEX_WIDTH;
 ghost use mathlib.Core.Path.{_≡_};
 ghost use mathlib.Core.Bool.{true, false};
+ghost use Rattle.limits.specs.Limits.{space};
 ghost use Rattle.laws.specs.Pieces.{split};
-ghost use Rattle.text.specs.Constants.{space};
 ghost use Rattle.text.specs.Line.{badMark, tooMany, noRoom, badCounts, afterRole, lineVerdict};
 ghost use Rattle.text.specs.Loops.{Few, openFault};
 

@@ -1,7 +1,7 @@
 // The mark of a line, and what it tells: how many fields, and what the line is.
-use crate::constants::MARK_WIDTH;
 use crate::terms::Mark;
 use crate::terms::Role;
+use limits::MARK_WIDTH;
 ghost use mathlib.Core.Path.{_≡_};
 ghost use Rattle.text.specs.Line.{markWith, markOf, wants, roleOf};
 ghost use Rattle.text.specs.Records.{tipFirst};

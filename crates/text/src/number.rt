@@ -1,13 +1,4 @@
 // The numbers of the text file: a coordinate, a vertex number or count.
-use crate::constants::COMMA;
-use crate::constants::COORDINATE_LIMIT;
-use crate::constants::DECIMAL_DIGITS;
-use crate::constants::MINUS;
-use crate::constants::NINE;
-use crate::constants::NUMBER_DIGITS;
-use crate::constants::POINT;
-use crate::constants::WHOLE_DIGITS;
-use crate::constants::ZERO;
 use crate::scan::find;
 use crate::scan::from;
 use crate::scan::past;
@@ -15,11 +6,20 @@ use crate::scan::until;
 use crate::terms::Coordinate;
 use crate::terms::Spelt;
 use faults::Fault;
+use limits::COMMA;
+use limits::DECIMAL_DIGITS;
+use limits::MAGNITUDE_LIMIT;
+use limits::MINUS;
+use limits::NINE;
+use limits::NUMBER_DIGITS;
+use limits::POINT;
+use limits::WHOLE_DIGITS;
+use limits::ZERO;
 ghost use mathlib.Core.Path.{_≡_};
 ghost use Prim.Native.Nat.{_^_, _≤_, _<_};
 ghost use lib.ListN.{length};
+ghost use Rattle.limits.specs.Limits.{point, wholeDigits};
 ghost use Rattle.laws.specs.Pieces.{split};
-ghost use Rattle.text.specs.Constants.{point, wholeDigits};
 ghost use Rattle.text.specs.Number.{appended, decimals, millimetres, unsigned, coordinateOf, thousandthsOf, valueOf};
 ghost use Rattle.text.specs.Loops.{DigitsRead, WholeRead, NumberRead};
 
@@ -110,7 +110,7 @@ fn millimetres(neg: bool, w: Spelt, f: Spelt) -> Coordinate
         Spelt::Of(w) => match f {
             Spelt::Of(f) => {
                 let m = (w as u64) * 1000 + (f as u64);
-                if m <= COORDINATE_LIMIT {
+                if m <= MAGNITUDE_LIMIT {
                     let v = m as i32;
                     if neg {
                         return Coordinate::Thousandths(-v);

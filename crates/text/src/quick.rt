@@ -1,20 +1,5 @@
 // A quick reading of a line beyond question: a VX line, or an element line but PZ, whose fields are all good. It touches each byte once and
 // searches for nothing. It declines any other line, which file.rt then judges.
-use crate::constants::COORDINATE_LIMIT;
-use crate::constants::DECIMAL_DIGITS;
-use crate::constants::ELEMENT_NUMBERS;
-use crate::constants::ELEMENT_WIDTH;
-use crate::constants::FIELDS_AT;
-use crate::constants::LINE_END;
-use crate::constants::MARK_WIDTH;
-use crate::constants::MINUS;
-use crate::constants::NUMBER_DIGITS;
-use crate::constants::POINT;
-use crate::constants::SPACE;
-use crate::constants::VERTEX_NUMBERS;
-use crate::constants::VERTEX_WIDTH;
-use crate::constants::WHOLE_DIGITS;
-use crate::constants::ZERO;
 use crate::line::bad_mark;
 use crate::line::no_room;
 use crate::line::too_many;
@@ -27,10 +12,25 @@ use crate::terms::ReaderState;
 use crate::terms::Role;
 use crate::terms::Rooms;
 use crate::terms::Spelt;
+use limits::DECIMAL_DIGITS;
+use limits::ELEMENT_NUMBERS;
+use limits::ELEMENT_WIDTH;
+use limits::FIELDS_AT;
+use limits::LINE_END;
+use limits::MAGNITUDE_LIMIT;
+use limits::MARK_WIDTH;
+use limits::MINUS;
+use limits::NUMBER_DIGITS;
+use limits::POINT;
+use limits::SPACE;
+use limits::VERTEX_NUMBERS;
+use limits::VERTEX_WIDTH;
+use limits::WHOLE_DIGITS;
+use limits::ZERO;
 ghost use mathlib.Core.Path.{_≡_};
 ghost use Prim.Native.Nat.{_*_, _-_, _≤_, _<_};
 ghost use lib.ListN.{getD};
-ghost use Rattle.text.specs.Constants.{wholeDigits, vertexLimit, elementLimit, vertexWidth, elementWidth};
+ghost use Rattle.limits.specs.Limits.{wholeDigits, vertexLimit, elementLimit, vertexWidth, elementWidth};
 ghost use Rattle.text.specs.Number.{thousandthsOf, valueOf};
 ghost use Rattle.text.specs.Line.{markOf};
 ghost use Rattle.text.specs.Loops.{Ready};
@@ -115,7 +115,7 @@ fn scaled(value: u32, n: usize) -> u32
 fn within(value: u32, next: usize) -> Run
     ensures { λ r. ⌜ ((r .next ≡ 0 → ⊥) → Within value next (r .value) (r .next)) ⌝ }
 {
-    if COORDINATE_LIMIT < (value as u64) {
+    if MAGNITUDE_LIMIT < (value as u64) {
         return Run { value: 0, next: 0 };
     }
     Run { value, next }

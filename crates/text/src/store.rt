@@ -1,12 +1,6 @@
 // The records of the lines, kept in two tables of the reader's own, each in the state before its line, and copied into the lent ones.
 use crate::ReadAnswer;
 use crate::ReadCounts;
-use crate::constants::ELEMENT_NUMBERS;
-use crate::constants::ELEMENT_WIDTH;
-use crate::constants::FIELDS_AT;
-use crate::constants::SPACE;
-use crate::constants::VERTEX_NUMBERS;
-use crate::constants::VERTEX_WIDTH;
 use crate::field::numbers;
 use crate::mark::mark_of;
 use crate::mark::role_of;
@@ -20,13 +14,19 @@ use crate::scan::until;
 use crate::terms::Mark;
 use crate::terms::ReaderState;
 use crate::terms::Role;
+use limits::ELEMENT_NUMBERS;
+use limits::ELEMENT_WIDTH;
+use limits::FIELDS_AT;
+use limits::SPACE;
+use limits::VERTEX_NUMBERS;
+use limits::VERTEX_WIDTH;
 ghost use mathlib.Core.Path.{_≡_};
 ghost use Prim.Native.Nat.{_+_, _*_, _^_, _<_};
 ghost use lib.ListN.{take, set};
 ghost use lib.Seq.{sets};
+ghost use Rattle.limits.specs.Limits.{space, vertexLimit, elementLimit, vertexWidth, elementWidth};
 ghost use Rattle.laws.specs.Lent.{laid};
 ghost use Rattle.laws.specs.Pieces.{split};
-ghost use Rattle.text.specs.Constants.{space, vertexLimit, elementLimit, vertexWidth, elementWidth};
 ghost use Rattle.text.specs.Records.{vertexRecord, elementRecord, vertexRecords, elementRecords};
 ghost use Rattle.text.specs.Loops.{Few, StoredLine, Copying, countsIn};
 

@@ -8,7 +8,8 @@ use Rattle.laws.specs.Sizes.{Within}
 use Rattle.laws.proofs.SizeLaws.{within-add, within-sub, within-mul}
 use Rattle.volume.specs.declared.Point.{Point}
 use Rattle.volume.specs.declared.Row.{Row}
-use Rattle.volume.specs.Volume.{limit, pointInRange, minus, minor, determinant, sixfold}
+use Rattle.limits.specs.Limits.{coordinateLimit}
+use Rattle.volume.specs.Volume.{pointInRange, minus, minor, determinant, sixfold}
 use Rattle.volume.specs.Rows.{reach, RowWithin}
 use Rattle.volume.proofs.RangeLaws.{Coordinates, coordinates, in-range-within}
 

@@ -8,7 +8,8 @@ use lib.Signed.{leZ}
 use borrow.Author.Tests.{leb-true, not-true, not-false}
 use Rattle.laws.specs.Sizes.{Within}
 use Rattle.volume.specs.declared.Point.{Point}
-use Rattle.volume.specs.Volume.{limit, inRange, pointInRange}
+use Rattle.limits.specs.Limits.{coordinateLimit}
+use Rattle.volume.specs.Volume.{inRange, pointInRange}
 
 -- a test that failed or passed, as a call gives it
 module _ {s t : Bool} where
@@ -23,19 +24,19 @@ both : (a b : Bool) → a && b ≡ true → (a ≡ true) × (b ≡ true)
 both true b h = (refl, h)
 both false b h = (h, cc)
 
-pub in-range-within : (z : ℤ) → inRange z ≡ true → Within limit z
+pub in-range-within : (z : ℤ) → inRange z ≡ true → Within coordinateLimit z
 unfolding inRange
-in-range-within (pos n) h = record { abs = leb-true n limit h }
+in-range-within (pos n) h = record { abs = leb-true n coordinateLimit h }
 in-range-within (negsuc n) h =
-    let l = leb-true n _ (both (leZ (negℤ (pos limit)) (negsuc n)) true h .0) in
+    let l = leb-true n _ (both (leZ (negℤ (pos coordinateLimit)) (negsuc n)) true h .0) in
     record { abs = omega arith }
 
 -- a coordinate that passed the lower test is judged by the upper one; one that failed it is beyond the limits
-pub by-upper : (z : ℤ) → leZ (negℤ (pos limit)) z ≡ true → leZ z (pos limit) ≡ inRange z
+pub by-upper : (z : ℤ) → leZ (negℤ (pos coordinateLimit)) z ≡ true → leZ z (pos coordinateLimit) ≡ inRange z
 unfolding inRange
 by-upper z h = rw h
 
-pub by-lower : (z : ℤ) → leZ (negℤ (pos limit)) z ≡ false → leZ (negℤ (pos limit)) z ≡ inRange z
+pub by-lower : (z : ℤ) → leZ (negℤ (pos coordinateLimit)) z ≡ false → leZ (negℤ (pos coordinateLimit)) z ≡ inRange z
 unfolding inRange
 by-lower z h = rw h
 

@@ -2,11 +2,11 @@
 use Prim.Native.Nat.{ℕ, _+_}
 use Rattle.laws.specs.Sizes.{Within}
 use Rattle.volume.specs.declared.Row.{Row}
-use Rattle.volume.specs.Volume.{limit}
+use Rattle.limits.specs.Limits.{coordinateLimit}
 
 -- the greatest difference of two coordinates
 abbrev pub reach : ℕ
-reach = limit + limit
+reach = coordinateLimit + coordinateLimit
 
 -- each number of the row lies between -n and n
 pub record RowWithin (n : ℕ) (u : Row) : Type 0 where

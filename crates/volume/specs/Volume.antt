@@ -8,6 +8,7 @@ use Prim.Native.Nat.{ℕ, _+_, _*_, _-_}
 use lib.IntN.{ℤ, pos, negℤ, _+ℤ_, _-ℤ_, _*ℤ_}
 use lib.ListN.{getD}
 use lib.Signed.{leZ}
+use Rattle.limits.specs.Limits.{coordinateLimit}
 use Rattle.faults.specs.declared.Fault.the-variants.{Range}
 use Rattle.faults.specs.Refusals.{Verdict, accepted, refused, refuse, answerOf}
 use Rattle.volume.specs.declared.Point.{Point}
@@ -15,13 +16,9 @@ use Rattle.volume.specs.declared.Row.{Row}
 use Rattle.volume.specs.declared.VolumeAnswer.{VolumeAnswer}
 use Rattle.volume.specs.declared.VolumeAnswer.the-variants.{Done, Refused}
 
--- the greatest coordinate
-abbrev pub limit : ℕ
-limit = 500000
-
 -- a coordinate from -500,000 to 500,000
 unfoldable pub inRange : ℤ → Bool
-inRange z = leZ (negℤ (pos limit)) z && leZ z (pos limit)
+inRange z = leZ (negℤ (pos coordinateLimit)) z && leZ z (pos coordinateLimit)
 
 -- each coordinate of the point is within the limits
 unfoldable pub pointInRange : Point → Bool

@@ -9,9 +9,7 @@ ghost use Rattle.volume.specs.Volume.{inRange, pointInRange, minus, mino
 ghost use Rattle.volume.specs.Rows.{reach, RowWithin};
 use faults::Fault;
 use faults::Refusal;
-
-// A coordinate lies from -LIMIT to LIMIT.
-pub const LIMIT: i32 = 500000;
+use limits::COORDINATE_LIMIT;
 
 // A vertex, in thousandths of a millimetre.
 pub struct Point {
@@ -33,10 +31,11 @@ pub enum VolumeAnswer {
     Refused(Refusal),
 }
 
+// A coordinate lies from -COORDINATE_LIMIT to COORDINATE_LIMIT.
 fn in_range(z: i32) -> bool
     ensures { λ r. ⌜ r ≡ inRange z ⌝ }
 {
-    -LIMIT <= z && z <= LIMIT
+    -COORDINATE_LIMIT <= z && z <= COORDINATE_LIMIT
 }
 
 // Each coordinate of the point is within the limits.

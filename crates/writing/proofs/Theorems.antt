@@ -10,6 +10,7 @@ use lib.IntN.{ℤ, pos, negsuc}
 use lib.ListN.{length}
 use native.Mathlib.Omega.{arith}
 use borrow.Author.Tests.{le-ltb, lt-ltb}
+use Rattle.limits.specs.Limits.{minus, vertexLimit, tetrahedronLimit}
 use Rattle.laws.specs.Lent.{laid}
 use Rattle.faults.specs.Refusals.{Verdict, accepted, refused, refuse}
 use Rattle.faults.specs.declared.Fault.the-variants as fault
@@ -18,7 +19,6 @@ use Rattle.faults.specs.declared.Refusal.{Refusal}
 use Rattle.faults.proofs.Theorems.{answer-tells-verdict}
 use Rattle.volume.specs.Volume.{inRange}
 use Rattle.records.specs.Record.{kindOf, recordFinding}
-use Rattle.text.specs.Constants.{minus, vertexLimit, tetrahedronLimit}
 use Rattle.text.specs.declared.terms.Mark.the-variants.{Te, Py, Pz, Pr, Hx, Unknown}
 use Rattle.writing.specs.Written.{digitsOf, decimal, signOf, millimetresOf, coordinateText, closed, vertexLine, markOfKind, elementLine, endLine, refusalLine, inRoom, writeVertexVerdict, writeElementVerdict, writeEndVerdict}
 use Rattle.writing.specs.Writing.{writeRefusalVerdict, writeVerdict, WriteDone}

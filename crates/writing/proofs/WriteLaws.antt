@@ -7,6 +7,7 @@ use mathlib.Core.List.{List}
 use lib.IntN.{ℤ}
 use lib.ListN.{length, take}
 use borrow.Author.Tests.{lt-ltb, le-ltb}
+use Rattle.limits.specs.Limits.{vertexLimit, tetrahedronLimit}
 use Rattle.laws.specs.Lent.{laid}
 use Rattle.laws.proofs.LentLaws.{laid-none}
 use Rattle.faults.specs.Refusals.{Verdict, accepted, refused, refuse}
@@ -16,7 +17,6 @@ use Rattle.faults.specs.declared.Fault.{Fault}
 use Rattle.faults.specs.declared.Fault.the-variants as fault
 use Rattle.volume.specs.Volume.{inRange}
 use Rattle.records.specs.Record.{recordFinding}
-use Rattle.text.specs.Constants.{vertexLimit, tetrahedronLimit}
 use Rattle.writing.specs.Written.{closed, vertexLine, elementLine, endLine, inRoom, writeVertexVerdict, writeElementVerdict, writeEndVerdict}
 use Rattle.writing.specs.Writing.{writeVerdict, WriteDone}
 use Rattle.writing.specs.WriteLoops.{Put}

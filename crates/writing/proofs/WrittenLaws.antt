@@ -13,9 +13,10 @@ use lib.ListN.{length, getD, take, length-append, List·getD-eq-default}
 use lib.Seq.{take-all, take-suc}
 use lib.Signed.{ltZ}
 use borrow.Author.Tests.{ltb-true, ltb-false}
+use Rattle.limits.specs.Limits.{lineEnd, space, minus, point, vertexLimit, tetrahedronLimit}
 use Rattle.laws.specs.Words.{gather, every}
 use Rattle.laws.proofs.TestLaws.{and-left, and-right}
-use Rattle.laws.proofs.GatherLaws.{gather-append}
+use Rattle.laws.proofs.ListLaws.{gather-append}
 use Rattle.faults.specs.Refusals.{numberOf}
 use Rattle.faults.specs.declared.Fault.{Fault}
 use Rattle.faults.specs.declared.Fault.the-variants as fault
@@ -25,9 +26,8 @@ use Rattle.faults.specs.declared.Finding.the-variants.{Clean}
 use Rattle.volume.specs.Volume.{inRange, pointInRange}
 use Rattle.volume.proofs.RangeLaws.{in-range-within, coordinates}
 use Rattle.records.specs.Record.{kindOf, usedOf, cornerAt, recordFinding}
-use Rattle.records.specs.Loops.{isNumber}
+use Rattle.records.specs.WholeRecords.{isNumber}
 use Rattle.records.proofs.RecordLaws.{clean-faultless, clean-whole, used-length, kind-small, corner-used}
-use Rattle.text.specs.Constants.{lineEnd, space, minus, point, vertexLimit, tetrahedronLimit}
 use Rattle.text.specs.Line.{markBytes}
 use Rattle.text.specs.declared.terms.Mark.{Mark}
 use Rattle.text.specs.declared.terms.Mark.the-variants.{Vx, Te, Py, Pz, Pr, Hx, En, Unknown}

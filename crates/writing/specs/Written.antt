@@ -6,6 +6,7 @@ use mathlib.Core.List.{List, [], _∷_, _++_, map}
 use lib.ListN.{length, getD, take, drop}
 use lib.Dec.{eqb, leb, ltb}
 use lib.IntN.{ℤ, pos, negsuc, natAbs}
+use Rattle.limits.specs.Limits.{lineEnd, space, minus, point, digit0, vertexLimit, tetrahedronLimit, vertexWidth, elementWidth}
 use Rattle.laws.specs.Words.{gather}
 use Rattle.faults.specs.Refusals.{Verdict, accepted, refused, refuse, refuseIf, numberOf}
 use Rattle.faults.specs.declared.Finding.{Finding}
@@ -14,7 +15,6 @@ use Rattle.volume.specs.Volume.{inRange}
 use Rattle.records.specs.Record.{kindOf, usedOf, recordFinding}
 use Rattle.faults.specs.declared.Fault.the-variants as fault
 use Rattle.faults.specs.declared.Refusal.{Refusal}
-use Rattle.text.specs.Constants.{lineEnd, space, minus, point, digit0, vertexLimit, tetrahedronLimit, vertexWidth, elementWidth}
 use Rattle.text.specs.Line.{markBytes, after}
 use Rattle.text.specs.File.{start}
 use Rattle.text.specs.declared.terms.Mark.{Mark}

@@ -8,17 +8,18 @@ use crate::written::vertex_line;
 use faults::Fault;
 use faults::Finding;
 use faults::Refusal;
+use limits::TETRAHEDRON_LIMIT;
+use limits::VERTEX_LIMIT;
 use records::judge_record;
-use text::constants::VERTEX_LIMIT;
 use volume::Point;
 use volume::point_in_range;
 ghost use mathlib.Core.Path.{_≡_};
 ghost use Prim.Native.Nat.{_≤_};
 ghost use lib.ListN.{length};
+ghost use Rattle.limits.specs.Limits.{vertexLimit};
 ghost use Rattle.faults.specs.declared.Finding.the-variants.{Clean};
 ghost use Rattle.faults.specs.Refusals.{refuse};
 ghost use Rattle.records.specs.Record.{recordFinding};
-ghost use Rattle.text.specs.Constants.{vertexLimit};
 ghost use Rattle.writing.specs.Written.{closed, vertexLine, elementLine, inRoom, writeVertexVerdict, writeElementVerdict, writeEndVerdict};
 ghost use Rattle.writing.specs.Writing.{writeRefusalVerdict, WriteDone};
 ghost use Rattle.writing.specs.WriteLoops.{capacity};
@@ -31,9 +32,6 @@ pub enum WriteAnswer {
 
 // How long a line is at most.
 const CAPACITY: usize = 48;
-
-// The element limit of EN, which counts tetrahedra.
-const TETRAHEDRON_LIMIT: usize = 6144;
 
 // A fault with the place that it names.
 fn refused(fault: Fault, place: usize) -> WriteAnswer

@@ -2,22 +2,22 @@
 // finds no room is left out: what is promised of bytes is promised where all of them have room.
 use faults::Refusal;
 use faults::number_of;
+use limits::LINE_END;
+use limits::MINUS;
+use limits::POINT;
+use limits::SPACE;
+use limits::ZERO;
 use records::corner;
 use records::kind_of;
 use solids::Place;
-use text::constants::LINE_END;
-use text::constants::MINUS;
-use text::constants::POINT;
-use text::constants::SPACE;
-use text::constants::ZERO;
 use text::terms::Mark;
 ghost use mathlib.Core.Path.{_≡_};
 ghost use mathlib.Core.List.{_∷_, []};
 ghost use Prim.Native.Nat.{_%_, _<_};
 ghost use lib.IntN.{natAbs};
+ghost use Rattle.limits.specs.Limits.{space, vertexLimit};
 ghost use Rattle.faults.specs.declared.Finding.the-variants.{Clean};
 ghost use Rattle.records.specs.Record.{recordFinding};
-ghost use Rattle.text.specs.Constants.{space, vertexLimit};
 ghost use Rattle.text.specs.Line.{markBytes};
 ghost use Rattle.writing.specs.Written.{digit, digitsOf, decimal, millimetresOf, coordinateText, closed, markOfKind, vertexLine, elementLine, endLine, refusalLine};
 ghost use Rattle.writing.specs.WriteLoops.{Put};

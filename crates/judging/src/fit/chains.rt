@@ -3,11 +3,14 @@ ghost use mathlib.Core.Path.{_≡_};
 ghost use mathlib.Core.Bool.{not};
 ghost use Prim.Native.Nat.{_+_, _*_, _<_};
 ghost use lib.Dec.{ltb};
-ghost use Rattle.records.specs.Record.{width};
+ghost use Rattle.limits.specs.Limits.{elementWidth};
 ghost use Rattle.judging.specs.Judge.{misfit};
 ghost use Rattle.judging.specs.FitLoops.{Filed, Meeting, Met, Walking, Walked, Joining};
 use crate::fit::pair;
-use records::WIDTH;
+use limits::ELEMENT_LIMIT;
+use limits::ELEMENT_NUMBERS;
+use limits::ELEMENT_WIDTH;
+use limits::VERTEX_LIMIT;
 use solids::Vertex;
 
 // A number of a table as an index.
@@ -25,7 +28,7 @@ fn chain_of(vertex: Vertex) -> usize
 }
 
 // Meets element i at one more vertex of element j: 1 marks that they met once, 2 that they fit, which is tested when they meet again.
-fn fits_again(table: &[u16], i: usize, j: usize, seen: &mut [u8; 1024]) -> bool
+fn fits_again(table: &[u16], i: usize, j: usize, seen: &mut [u8; ELEMENT_LIMIT]) -> bool
     requires { ⌜ Meeting (now table) i j (now seen) ⌝ }
     ensures { λ r. ⌜ Met (now (table .entry)) i j (now (seen .entry)) (now (seen .exit)) r ⌝ }
 {
@@ -48,9 +51,9 @@ fn chain_fits(
     table: &[u16],
     j: usize,
     vertex: Vertex,
-    heads: &[u16; 4097],
-    links: &[u16; 9216],
-    seen: &mut [u8; 1024],
+    heads: &[u16; VERTEX_LIMIT + 1],
+    links: &[u16; ELEMENT_NUMBERS],
+    seen: &mut [u8; ELEMENT_LIMIT],
 ) -> bool
     requires { ⌜ Walking (now table) j (vertex .0) (now heads) (now links) (now seen) ⌝ }
     ensures { λ r. ⌜ Walked (now (table .entry)) j (vertex .0) (now (seen .entry)) (now (seen .exit)) r ⌝ }
@@ -58,7 +61,7 @@ fn chain_fits(
     let v = chain_of(vertex);
     let mut x = wide(heads[v]);
     while 0 < x {
-        if !fits_again(table, x / WIDTH, j, seen) {
+        if !fits_again(table, x / ELEMENT_WIDTH, j, seen) {
             return false;
         }
         x = wide(links[x]);
@@ -67,14 +70,19 @@ fn chain_fits(
 }
 
 // Element j fits each element before it.
-pub fn fits_all(table: &[u16], j: usize, heads: &[u16; 4097], links: &[u16; 9216]) -> bool
+pub fn fits_all(
+    table: &[u16],
+    j: usize,
+    heads: &[u16; VERTEX_LIMIT + 1],
+    links: &[u16; ELEMENT_NUMBERS],
+) -> bool
     requires { ⌜ Joining (now table) j (now heads) (now links) ⌝ }
     ensures { λ r. ⌜ r ≡ not (ltb 0 (misfit (now (table .entry)) j)) ⌝ }
 {
     let kind = wide(records::kind_of(records::record_at(table, j)));
-    let start = WIDTH * j + 1;
+    let start = ELEMENT_WIDTH * j + 1;
     let end = start + kind;
-    let mut seen = [0u8; 1024];
+    let mut seen = [0u8; ELEMENT_LIMIT];
     let mut x = start;
     while x < end {
         if !chain_fits(table, j, Vertex(table[x]), heads, links, &mut seen) {
@@ -86,12 +94,17 @@ pub fn fits_all(table: &[u16], j: usize, heads: &[u16; 4097], links: &[u16; 9216
 }
 
 // Puts the places of element j at the front of the chains of their vertices.
-pub fn file_places(table: &[u16], j: usize, heads: &mut [u16; 4097], links: &mut [u16; 9216])
+pub fn file_places(
+    table: &[u16],
+    j: usize,
+    heads: &mut [u16; VERTEX_LIMIT + 1],
+    links: &mut [u16; ELEMENT_NUMBERS],
+)
     requires { ⌜ Joining (now table) j (now heads) (now links) ⌝ }
-    ensures { λ _. ⌜ Filed (now (table .entry)) (width * (j + 1)) (now (heads .exit)) (now (links .exit)) ⌝ }
+    ensures { λ _. ⌜ Filed (now (table .entry)) (elementWidth * (j + 1)) (now (heads .exit)) (now (links .exit)) ⌝ }
 {
-    let start = WIDTH * j;
-    let end = start + WIDTH;
+    let start = ELEMENT_WIDTH * j;
+    let end = start + ELEMENT_WIDTH;
     let mut x = start + 1;
     while x < end {
         let v = chain_of(Vertex(table[x]));

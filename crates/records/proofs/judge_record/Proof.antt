@@ -8,10 +8,11 @@ use mathlib.Core.Bool.{Bool, true, false, not}
 use mathlib.Core.List.{List}
 use Prim.Native.Nat.{ℕ, _+_, _-_, _≤_}
 use lib.ListN.{length, getD, take, drop}
+use Rattle.limits.specs.Limits.{elementWidth}
 use Rattle.laws.specs.Words.{some, distinct}
 use Rattle.laws.proofs.TestLaws.{true-T}
 use Rattle.laws.proofs.WordLaws.{part-from}
-use Rattle.records.specs.Record.{width, kindOf, usedOf, spareOf, isKind, strayVertex, notZero}
+use Rattle.records.specs.Record.{kindOf, usedOf, spareOf, isKind, strayVertex, notZero}
 use Rattle.records.proofs.RecordLaws.{kind-small, used-part, spare-part, finding-short, finding-kind, finding-vertex, finding-spare, finding-repeat, finding-clean}
 use Rattle.records.proofs.judge_record.Statement.{statement}
 use Rattle.records.proofs.judge_record.Tie as tie
@@ -29,7 +30,7 @@ module _ (r : List ℕ) where
   unfolding kindOf
   no-kind {b} e t = sym e ∙ not-true b t
 
-  module _ (wide : length r ≡ width) (f : List ℕ → Bool) {b v : Bool} where
+  module _ (wide : length r ≡ elementWidth) (f : List ℕ → Bool) {b v : Bool} where
     of-used : b ≡ f (take (1 + getD r 0 0 - 1) (drop 1 r)) → b ≡ v → f (usedOf r) ≡ v
     unfolding kindOf
     of-used e t = ap f (sym (used-part r wide (getD r 0 0) refl)) ∙ sym e ∙ t

@@ -1,9 +1,9 @@
 -- `writing::write_element` writes the record of an element. Assumes nothing.
 use mathlib.Core.Path.{_≡_, sym, _∙_}
 use denote.Ref.{now}
+use Rattle.limits.specs.Limits.{vertexLimit}
 use Rattle.faults.specs.declared.Finding.the-variants.{Clean}
 use Rattle.records.specs.Record.{recordFinding}
-use Rattle.text.specs.Constants.{vertexLimit}
 use Rattle.writing.proofs.WriteLaws.{refused-done, same-done, faulty, faultless}
 use borrow.Author.Needs.{needs}
 use Rattle.writing.proofs.write_element.Statement.{statement}

@@ -8,7 +8,7 @@ use mathlib.Core.List.{List}
 use borrow.Author.Tests.{not-true, not-false}
 use denote.Ref.{now}
 use lib.Dec.{ltb}
-use Rattle.records.specs.Record.{width}
+use Rattle.limits.specs.Limits.{elementWidth}
 use Rattle.judging.specs.Judge.{misfit, badElement}
 use Rattle.judging.specs.FitLoops.{Numbered, Filed, Joining}
 use Rattle.laws.proofs.PassLaws.{Failed, failed-start, failed-here, failed-next, failed-end}
@@ -22,7 +22,7 @@ bad t j = ltb 0 (misfit t j)
 
 record Going (t : List ℕ) (n j : ℕ) (heads links : List ℕ) : Type 0 where
   failed : Failed (bad t) n j
-  filed : Filed t (width * j) heads links
+  filed : Filed t (elementWidth * j) heads links
 
 joining : {t : List ℕ} {n j : ℕ} {heads links : List ℕ} → Numbered t n → Going t n j heads links → j < n → Joining t j heads links
 joining {t} {n} {j} m w h = record { table = numbered-front t n (j + 1) m (omega arith); filed = w .filed }

@@ -12,7 +12,7 @@ use Rattle.solids.specs.declared.Solid.{Solid}
 use Rattle.solids.specs.Solids.{Face, Tet, element, faces, faceCount, facesOf, at, onFace}
 use Rattle.laws.specs.Words.{lowest}
 use Rattle.solids.specs.Cut.{first, fan, inOrder}
-use Rattle.records.specs.Loops.{Whole}
+use Rattle.records.specs.WholeRecords.{Whole}
 use Rattle.solids.proofs.CountLaws.{length-inOrder}
 use Rattle.records.specs.Record.{kindOf, usedOf, solidOf, elementOf}
 use Rattle.mesh.specs.BlockLoops.{BlockIs, Grown, faceIn, faceTets}

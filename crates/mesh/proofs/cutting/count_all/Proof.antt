@@ -8,7 +8,7 @@ use denote.Ref.{now}
 use lib.ListN.{length}
 use Rattle.solids.specs.Cut.{cut}
 use Rattle.records.specs.Record.{elementOf, recordAt}
-use Rattle.records.specs.Loops.{Whole, WholeTable}
+use Rattle.records.specs.WholeRecords.{Whole, WholeTable}
 use Rattle.mesh.proofs.RecordCutLaws.{cut-few}
 use Rattle.mesh.proofs.MeshCutLaws.{cutTo, cut-none, count-next}
 use Rattle.mesh.proofs.cutting.count_all.Statement.{statement}

@@ -6,12 +6,12 @@ use Prim.Native.Nat.{ℕ, _+_, _*_, _-_, _≤_, _<_}
 use native.Mathlib.Omega.{arith}
 use denote.Ref.{now}
 use lib.ListN.{length}
+use Rattle.limits.specs.Limits.{tetrahedronWidth}
 use Rattle.laws.specs.Lent.{placed}
 use Rattle.laws.proofs.LentLaws.{placed-none, placed-laid}
 use Rattle.solids.specs.Cut.{cut}
 use Rattle.records.specs.Record.{elementOf, recordAt}
-use Rattle.records.specs.Loops.{Whole, WholeTable}
-use Rattle.records.specs.Limits.{tetrahedronWidth}
+use Rattle.records.specs.WholeRecords.{Whole, WholeTable}
 use Rattle.mesh.specs.Cutting.{flat}
 use Rattle.mesh.specs.BlockLoops.{Stored}
 use Rattle.mesh.proofs.RecordCutLaws.{cut-few}

@@ -7,9 +7,9 @@ use native.Mathlib.Numerals.{add-one}
 use native.Mathlib.Omega.{arith}
 use borrow.Author.Needs.{needs}
 use lib.ListN.{length, take, getD}
+use Rattle.limits.specs.Limits.{tetrahedronWidth}
 use Rattle.laws.specs.Lent.{placed}
 use Rattle.laws.proofs.LentLaws.{placed-none}
-use Rattle.records.specs.Limits.{tetrahedronWidth}
 use Rattle.mesh.specs.Cutting.{flat}
 use Rattle.mesh.specs.BlockLoops.{keyed, tetsIn}
 use Rattle.mesh.proofs.StoreLaws.{placed-next}

@@ -14,7 +14,7 @@ use Rattle.laws.specs.Words.{every}
 use Rattle.solids.specs.Cut.{cutMesh}
 use Rattle.solids.proofs.Theorems.{mesh-most}
 use Rattle.records.specs.Record.{usedOf, elementOf, recordAt, elementAt, firstElements}
-use Rattle.records.specs.Loops.{Whole, WholeTable}
+use Rattle.records.specs.WholeRecords.{Whole, WholeTable}
 use Rattle.records.proofs.Theorems.{first-length, first-proper}
 use Rattle.mesh.specs.declared.SignCounts.{SignCounts}
 use Rattle.mesh.specs.Signs.{signCounts}

@@ -4,8 +4,8 @@ use native.Mathlib.Omega.{arith}
 use mathlib.Core.Path.{_≡_, refl, sym, _∙_}
 use borrow.Author.Needs.{needs}
 use lib.ListN.{length}
+use Rattle.limits.specs.Limits.{space}
 use Rattle.laws.specs.Pieces.{split}
-use Rattle.text.specs.Constants.{space}
 use Rattle.text.specs.Line.{areFields}
 use Rattle.text.proofs.FieldLaws.{none-wanted, fields-empty, fields-last, fields-more}
 use Rattle.text.proofs.field.are_fields.Statement.{statement}

@@ -5,8 +5,8 @@ use native.Mathlib.Omega.{arith}
 use mathlib.Core.Path.{_≡_, refl, sym, _∙_}
 use borrow.Author.Needs.{needs}
 use lib.ListN.{length, length-drop}
+use Rattle.limits.specs.Limits.{space}
 use Rattle.laws.specs.Pieces.{split}
-use Rattle.text.specs.Constants.{space}
 use Rattle.text.specs.Line.{fieldsVerdict}
 use Rattle.text.proofs.FieldLaws.{verdict-last, verdict-more, verdict-failed}
 use Rattle.text.proofs.field.judge_fields.Statement.{statement}

@@ -7,8 +7,8 @@ use mathlib.Core.Path.{_≡_, refl, sym, ap, _∙_}
 use borrow.Author.Needs.{needs}
 use lib.ListN.{length, length-set}
 use lib.Seq.{sets}
+use Rattle.limits.specs.Limits.{space}
 use Rattle.laws.specs.Pieces.{split}
-use Rattle.text.specs.Constants.{space}
 use Rattle.text.specs.Number.{valueOf}
 use Rattle.text.specs.Line.{firstOf, numbersOf}
 use Rattle.text.proofs.FieldLaws.{length-first, first-none, first-more, sets-whole}

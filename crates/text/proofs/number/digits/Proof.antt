@@ -8,7 +8,7 @@ use mathlib.Core.Path.{_≡_, refl, sym, _∙_}
 use borrow.Author.Needs.{needs}
 use lib.Dec.{lit<}
 use lib.ListN.{length, drop}
-use Rattle.text.specs.Constants.{wholeDigits}
+use Rattle.limits.specs.Limits.{wholeDigits}
 use Rattle.text.specs.Number.{spelt}
 use Rattle.text.proofs.NumberLaws.{spelt-not, spelt-on, spelt-end, appended-small}
 use Rattle.text.proofs.number.digits.Statement.{statement}

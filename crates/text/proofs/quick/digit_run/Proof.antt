@@ -5,7 +5,7 @@ use native.Mathlib.Omega.{arith}
 use mathlib.Core.Path.{_≡_, sym, ap, _∙_}
 use borrow.Author.Needs.{needs}
 use lib.ListN.{length}
-use Rattle.text.specs.Constants.{wholeDigits}
+use Rattle.limits.specs.Limits.{wholeDigits}
 use Rattle.text.specs.Number as number
 use Rattle.text.specs.QuickLoops.{DigitsAt}
 use Rattle.text.proofs.QuickNumbers.{place-inside, digit-low, digits-none, digits-more, digits-few, digits-under}

@@ -5,7 +5,7 @@ use native.Mathlib.Omega.{arith}
 use mathlib.Core.Path.{_∙_}
 use borrow.Author.Tests.{eq-eqb, ne-eqb}
 use borrow.Author.Needs.{needs}
-use Rattle.text.specs.Constants.{vertexWidth}
+use Rattle.limits.specs.Limits.{vertexWidth}
 use Rattle.text.specs.Number.{thousandthsOf}
 use Rattle.text.specs.declared.terms.Role.the-variants.{VertexLine}
 use Rattle.text.specs.declared.terms.ReaderState.{ReaderState}

@@ -7,7 +7,7 @@ use mathlib.Core.Path.{_≡_, refl, sym, _∙_}
 use borrow.Author.Needs.{needs}
 use lib.ListN.{length, drop, drop-of-length-le}
 use lib.Seq.{sets, drop-cons}
-use Rattle.text.specs.Constants.{elementWidth}
+use Rattle.limits.specs.Limits.{elementWidth}
 use Rattle.text.proofs.store.put_element.Statement.{statement}
 use Rattle.text.proofs.store.put_element.Tie as tie
 

@@ -7,8 +7,8 @@ use mathlib.Core.Path.{_≡_, refl, sym, ap, _∙_}
 use borrow.Author.Needs.{needs}
 use lib.ListN.{length}
 use lib.Seq.{sets}
+use Rattle.limits.specs.Limits.{space, vertexWidth}
 use Rattle.laws.specs.Pieces.{split}
-use Rattle.text.specs.Constants.{space, vertexWidth}
 use Rattle.text.specs.Number.{thousandthsOf}
 use Rattle.text.specs.Line.{firstOf}
 use Rattle.text.specs.Records.{vertexRecord}

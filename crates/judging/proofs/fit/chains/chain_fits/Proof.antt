@@ -11,7 +11,7 @@ use borrow.Author.Tests.{not-true, not-false}
 use denote.Ref.{now}
 use lib.Dec.{T}
 use lib.ListN.{getD}
-use Rattle.records.specs.Record.{width}
+use Rattle.limits.specs.Limits.{elementWidth}
 use Rattle.judging.specs.FitLoops.{holds, latest, Filed, Seen, Met, Walked}
 use Rattle.judging.proofs.ChainLaws.{On, on-start, on-next, holds-place, holds-vertex, latest-less, misfit-some}
 use Rattle.judging.proofs.fit.chains.chain_fits.Statement.{statement}
@@ -25,20 +25,20 @@ abbrev μ-loop : tie.MeasureT-loop
 
 -- the element of place x is before j, and the place before x of the same vertex is the next of the chain
 module _ {t : List ℕ} {j v x : ℕ} {old new : List ℕ} (w : On t j v old new x) (h : 0 < x) where
-  early : x / width < j
+  early : x / elementWidth < j
   early = let l = w .less h in omega arith
 
-  next-place : {heads links : List ℕ} {y : ℕ} → Filed t (width * j) heads links → y ≡ getD links x 0 → y ≡ latest (holds t v) x
+  next-place : {heads links : List ℕ} {y : ℕ} → Filed t (elementWidth * j) heads links → y ≡ getD links x 0 → y ≡ latest (holds t v) x
   next-place f e = e ∙ f .next x (w .less h) (holds-place t v x (w .here h)) ∙ ap (λ u. latest (holds t u) x) (holds-vertex t v x (w .here h))
 
   -- an element of the chain does not fit
-  missed : {r : Bool} {marks : List ℕ} → Met t (x / width) j new marks r → r ≡ false → Walked t j v old marks false
+  missed : {r : Bool} {marks : List ℕ} → Met t (x / elementWidth) j new marks r → r ≡ false → Walked t j v old marks false
   missed m e = record {
     seen = m .seen;
     grown = λ k. le-trans (w .grown k) (m .grown k);
     marked = λ z. absurd (subst T (sym z) tt);
     again = λ z. absurd (subst T (sym z) tt);
-    bad = λ z. misfit-some t (x / width) j early (m .bad e);
+    bad = λ z. misfit-some t (x / elementWidth) j early (m .bad e);
   }
 
 -- the chain is at its end

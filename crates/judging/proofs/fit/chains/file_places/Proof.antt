@@ -7,17 +7,17 @@ use mathlib.Core.List.{List}
 use borrow.Author.Needs.{needs}
 use denote.Ref.{now}
 use lib.ListN.{getD, set}
-use Rattle.records.specs.Record.{width}
+use Rattle.limits.specs.Limits.{elementWidth}
 use Rattle.judging.specs.FitLoops.{Numbered, Filed}
 use Rattle.judging.proofs.ChainLaws.{filed-kind, filed-more}
 use Rattle.judging.proofs.fit.chains.file_places.Statement.{statement}
 use Rattle.judging.proofs.fit.chains.file_places.Tie as tie
 
 abbrev Inv-loop : tie.InvT-loop
-Inv-loop table j heads₀ links₀ start end x₀ heads links x = (width * j < x) × (x ≤ width * j + width) × Filed table x heads links
+Inv-loop table j heads₀ links₀ start end x₀ heads links x = (elementWidth * j < x) × (x ≤ elementWidth * j + elementWidth) × Filed table x heads links
 
 abbrev μ-loop : tie.MeasureT-loop
-μ-loop table j heads₀ links₀ start end x₀ heads links x = width * j + width - x
+μ-loop table j heads₀ links₀ start end x₀ heads links x = elementWidth * j + elementWidth - x
 
 mul-start : tie.Need-mul-start Inv-loop μ-loop
 mul-start c = omega (arith, c .before .pre .table .table .few)
@@ -32,8 +32,8 @@ loop-holds : tie.Need-loop-holds Inv-loop μ-loop
 loop-holds c = (omega arith, omega arith, filed-kind (now (c .before .args .table)) (c .before .args .j) (c .before .pre .filed))
 
 -- x is a place of record j, and its vertex number is low
-module _ (t : List ℕ) (j x : ℕ) (h : width * j < x) (l : x < width * j + width) where
-  place : 0 < x % width
+module _ (t : List ℕ) (j x : ℕ) (h : elementWidth * j < x) (l : x < elementWidth * j + elementWidth) where
+  place : 0 < x % elementWidth
   place = omega arith
 
   low-here : {v : ℕ} → Numbered t (j + 1) → v ≡ getD t x 0 → v ≤ 4096
@@ -91,7 +91,7 @@ returns : tie.Need-returns Inv-loop μ-loop
 returns c =
     let a = c .before .before .before .args in
     let l = c .before .loop in
-    let e : l .x ≡ width * (a .j + 1) = omega arith in
+    let e : l .x ≡ elementWidth * (a .j + 1) = omega arith in
     subst (λ (m : ℕ). Filed (now (a .table)) m (l .heads) (l .links)) e (l .inv .2)
 
 pub file-places-spec : {M : Type 1} → statement M

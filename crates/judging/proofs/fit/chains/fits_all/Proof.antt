@@ -11,8 +11,9 @@ use borrow.Author.Tests.{eqb-true, eqb-false, lt-ltb, not-true, not-false}
 use denote.Ref.{now}
 use lib.Dec.{eqb, ltb}
 use lib.ListN.{getD}
-use Rattle.records.specs.Record.{width, kindOf, recordAt}
-use Rattle.records.specs.Loops.{WholeTable}
+use Rattle.limits.specs.Limits.{elementWidth}
+use Rattle.records.specs.Record.{kindOf, recordAt}
+use Rattle.records.specs.WholeRecords.{WholeTable}
 use Rattle.records.proofs.RecordLaws.{kind-small}
 use Rattle.judging.specs.Judge.{pairFits, misfit}
 use Rattle.judging.specs.FitLoops.{holds, Seen, Walked}
@@ -21,11 +22,11 @@ use Rattle.judging.proofs.fit.chains.fits_all.Statement.{statement}
 use Rattle.judging.proofs.fit.chains.fits_all.Tie as tie
 
 record Passed (t : List ℕ) (j x : ℕ) (marks : List ℕ) : Type 0 where
-  high : width * j < x
+  high : elementWidth * j < x
   seen : Seen t j marks
-  once : (q : ℕ) → width * j < q → q < x → (y : ℕ) → y < width * j → holds t (getD t q 0) y ≡ true → 0 < getD marks (y / width) 0
-  twice : (q r : ℕ) → width * j < q → q < r → r < x → (y z : ℕ) → y < width * j → z < width * j → y / width ≡ z / width
-      → holds t (getD t q 0) y ≡ true → holds t (getD t r 0) z ≡ true → pairFits t (z / width) j ≡ true
+  once : (q : ℕ) → elementWidth * j < q → q < x → (y : ℕ) → y < elementWidth * j → holds t (getD t q 0) y ≡ true → 0 < getD marks (y / elementWidth) 0
+  twice : (q r : ℕ) → elementWidth * j < q → q < r → r < x → (y z : ℕ) → y < elementWidth * j → z < elementWidth * j → y / elementWidth ≡ z / elementWidth
+      → holds t (getD t q 0) y ≡ true → holds t (getD t r 0) z ≡ true → pairFits t (z / elementWidth) j ≡ true
 
 passed-more : {t : List ℕ} {j x : ℕ} {old new : List ℕ} {b : Bool} → Passed t j x old → Walked t j (getD t x 0) old new b → b ≡ true → Passed t j (x + 1) new
 passed-more {t} {j} {x} {old} {new} w k e = record {
@@ -35,12 +36,12 @@ passed-more {t} {j} {x} {old} {new} w k e = record {
   twice = λ q r h l m. two q r h l m (eqb r x) refl;
 }
   where
-    one : (q : ℕ) → width * j < q → q < x + 1 → (d : Bool) → eqb q x ≡ d → (y : ℕ) → y < width * j → holds t (getD t q 0) y ≡ true → 0 < getD new (y / width) 0
+    one : (q : ℕ) → elementWidth * j < q → q < x + 1 → (d : Bool) → eqb q x ≡ d → (y : ℕ) → y < elementWidth * j → holds t (getD t q 0) y ≡ true → 0 < getD new (y / elementWidth) 0
     one q h l true f y m g = k .marked e y m (rw (eqb-true q x f) at g)
-    one q h l false f y m g = let n = eqb-false q x f in le-trans (w .once q h (omega arith) y m g) (k .grown (y / width))
+    one q h l false f y m g = let n = eqb-false q x f in le-trans (w .once q h (omega arith) y m g) (k .grown (y / elementWidth))
 
-    two : (q r : ℕ) → width * j < q → q < r → r < x + 1 → (d : Bool) → eqb r x ≡ d → (y z : ℕ) → y < width * j → z < width * j → y / width ≡ z / width
-        → holds t (getD t q 0) y ≡ true → holds t (getD t r 0) z ≡ true → pairFits t (z / width) j ≡ true
+    two : (q r : ℕ) → elementWidth * j < q → q < r → r < x + 1 → (d : Bool) → eqb r x ≡ d → (y z : ℕ) → y < elementWidth * j → z < elementWidth * j → y / elementWidth ≡ z / elementWidth
+        → holds t (getD t q 0) y ≡ true → holds t (getD t r 0) z ≡ true → pairFits t (z / elementWidth) j ≡ true
     two q r h l m true f y z a b o g n =
         let u = eqb-true r x f in
         k .again e z b (rw u at n) (rw o at (w .once q h (omega arith) y a g))
@@ -49,8 +50,8 @@ passed-more {t} {j} {x} {old} {new} w k e = record {
 misfit-here : {t : List ℕ} {j v : ℕ} {old new : List ℕ} {r : Bool} → Walked t j v old new r → r ≡ false → false ≡ not (ltb 0 (misfit t j))
 misfit-here {t} {j} k e = rw (lt-ltb 0 (misfit t j) (k .bad e))
 
-none-left : {t : List ℕ} {j x k : ℕ} {marks : List ℕ} → Passed t j x marks → WholeTable t (j + 1) → k ≡ kindOf (recordAt t j) → width * j + 1 + k ≤ x → true ≡ not (ltb 0 (misfit t j))
-none-left {t} {j} w whole e h = rw (misfit-none t j whole (λ q r l m n. w .twice (width * j + q) (width * j + r) (omega arith) (omega arith) (omega arith)))
+none-left : {t : List ℕ} {j x k : ℕ} {marks : List ℕ} → Passed t j x marks → WholeTable t (j + 1) → k ≡ kindOf (recordAt t j) → elementWidth * j + 1 + k ≤ x → true ≡ not (ltb 0 (misfit t j))
+none-left {t} {j} w whole e h = rw (misfit-none t j whole (λ q r l m n. w .twice (elementWidth * j + q) (elementWidth * j + r) (omega arith) (omega arith) (omega arith)))
 
 -- the kind of element j, which is at most 8
 kind-here : (t : List ℕ) (j : ℕ) {k f : ℕ} {r : List ℕ} → k ≡ f → f ≡ kindOf r → r ≡ recordAt t j → k ≡ kindOf (recordAt t j)
@@ -105,8 +106,8 @@ chain-fits-requires c κs =
     let p = c .before .before .before .before .before .before .before .before .pre in
     let l = c .before .before .before .loop in
     let h = few-corners (now (c .before .before .before .before .before .before .before .before .args .table)) (c .before .before .before .before .before .before .before .before .args .j) (c .before .before .before .before .before .before .before .before .pre .table .table) (kind-here (now (c .before .before .before .before .before .before .before .before .args .table)) (c .before .before .before .before .before .before .before .before .args .j) (c .before .before .before .before .wide .ensures) (c .before .before .before .before .before .kind-of .ensures) (c .before .before .before .before .before .before .record-at .ensures)) in
-    let k : width * c .before .before .before .before .before .before .before .before .args .j < l .x = l .inv .high in
-    let n : l .x < width * c .before .before .before .before .before .before .before .before .args .j + 1 + c .before .before .before .before .wide .result = c .before .before .loop-test .taken in
+    let k : elementWidth * c .before .before .before .before .before .before .before .before .args .j < l .x = l .inv .high in
+    let n : l .x < elementWidth * c .before .before .before .before .before .before .before .before .args .j + 1 + c .before .before .before .before .wide .result = c .before .before .loop-test .taken in
     record {
       table = p .table .table;
       low = p .table .low (l .x) (omega arith) (omega arith);

@@ -16,7 +16,7 @@ use Rattle.solids.specs.declared.Solid.{Solid}
 use Rattle.solids.specs.Solids.{Element, element}
 use Rattle.solids.specs.Fit.{proper, common, hasEdge, shareFace, fits}
 use Rattle.records.specs.Record.{kindOf, numbersOf, usedOf, solidOf, elementOf}
-use Rattle.records.specs.Loops.{Whole}
+use Rattle.records.specs.WholeRecords.{Whole}
 use Rattle.records.proofs.Theorems.{whole-proper}
 use Rattle.judging.specs.FitLoops.{Collected}
 use Rattle.judging.proofs.fit.pair.pair_fits.Statement.{statement}
