@@ -1,7 +1,6 @@
 -- What is proved of judging a table.
 pub mod FittingLaws
 pub mod ChainLaws
-pub mod JudgeLaws
 pub mod VerdictLaws
 pub mod AcceptedLaws
 pub mod AcceptanceLaws

@@ -20,7 +20,7 @@ use Rattle.records.specs.Record.{firstElements}
 use Rattle.judging.specs.declared.JudgeAnswer.{JudgeAnswer}
 use Rattle.judging.specs.declared.JudgeAnswer.the-variants as judge
 use Rattle.judging.specs.Judge.{judged, judgeVerdict, JudgeDone}
-use Rattle.judging.specs.JudgeLoops.{Recorded, Judging}
+use Rattle.judging.specs.Judgement.{Recorded, Judging}
 use Rattle.judging.specs.Acceptance.{Acceptable}
 use Rattle.judging.proofs.AcceptedLaws as AcceptedLaws
 use Rattle.judging.proofs.AcceptanceLaws as AcceptanceLaws
