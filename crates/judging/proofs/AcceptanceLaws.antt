@@ -23,8 +23,8 @@ use Rattle.tables.proofs.JudgedRecordLaws.{all-clean}
 use Rattle.judging.specs.Judge.{pairFits, misfit, badElement, judged}
 use Rattle.judging.specs.Acceptance.{Acceptable}
 use Rattle.records.proofs.Theorems.{clean-whole, first-each, first-proper}
-use Rattle.judging.proofs.VerdictLaws.{records-passed, all-fit}
-use Rattle.judging.proofs.AcceptedLaws.{accepted-elements, accepted-vertices, accepted-count, accepted-long, accepted-clean, accepted-fitting}
+use Rattle.judging.proofs.TableVerdictLaws.{records-passed, all-fit}
+use Rattle.judging.proofs.AcceptedTableLaws.{accepted-elements, accepted-vertices, accepted-count, accepted-long, accepted-clean, accepted-fitting}
 
 -- the elements before one more fit, and all of them fit it
 fitting-before : (es : List Element) (x : Element) → T (fitting (es ++ (x ∷ []))) → T (fitting es) × T (every (λ e. fits e x) es)

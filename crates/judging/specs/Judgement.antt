@@ -1,4 +1,4 @@
--- What judging tells of a table; proofs/AnswerLaws.antt says that the entry's answer tells it.
+-- What judging tells of a table; proofs/JudgeAnswerLaws.antt says that the entry's answer tells it.
 use mathlib.Core.Path.{_≡_}
 use mathlib.Core.List.{List}
 use Prim.Native.Nat.{ℕ, _≤_}

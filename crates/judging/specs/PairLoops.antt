@@ -1,4 +1,4 @@
--- The shape of the answer that the private judgement of the pairs gives; proofs/VerdictLaws.antt says what the entry makes of it.
+-- The shape of the answer that the private judgement of the pairs gives; proofs/TableVerdictLaws.antt says what the entry makes of it.
 use Rattle.faults.specs.Refusals.{Verdict, accepted, refused}
 use Rattle.judging.specs.declared.JudgeAnswer.{JudgeAnswer}
 use Rattle.judging.specs.declared.JudgeAnswer.the-variants.{Done, Refused}

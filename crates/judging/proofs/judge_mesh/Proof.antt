@@ -16,9 +16,9 @@ use Rattle.judging.specs.declared.JudgeAnswer.the-variants as judge
 use Rattle.judging.specs.Judge.{pairsJudged, JudgeDone}
 use Rattle.judging.specs.Judgement.{Recorded}
 use Rattle.judging.specs.PairLoops.{answerFrom}
-use Rattle.judging.proofs.VerdictLaws.{records-refused, records-passed, pairs-judging}
+use Rattle.judging.proofs.TableVerdictLaws.{records-refused, records-passed, pairs-judging}
 use Rattle.judging.proofs.ChainLaws.{recorded-numbered}
-use Rattle.judging.proofs.AnswerLaws.{judge-done}
+use Rattle.judging.proofs.JudgeAnswerLaws.{judge-done}
 use Rattle.judging.proofs.judge_mesh.Statement.{statement}
 use Rattle.judging.proofs.judge_mesh.Tie as tie
 

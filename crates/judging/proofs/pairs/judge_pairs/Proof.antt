@@ -5,7 +5,7 @@ use borrow.Author.Needs.{needs}
 use Rattle.faults.specs.Refusals.{Verdict, refused}
 use Rattle.judging.specs.declared.JudgeAnswer.the-variants.{Refused}
 use Rattle.judging.specs.PairLoops.{answerFrom}
-use Rattle.judging.proofs.VerdictLaws.{none, bad-pair, all-fit}
+use Rattle.judging.proofs.TableVerdictLaws.{none, bad-pair, all-fit}
 use Rattle.judging.proofs.pairs.judge_pairs.Statement.{statement}
 use Rattle.judging.proofs.pairs.judge_pairs.Tie as tie
 

@@ -1,6 +1,6 @@
 -- `judging::pairs::pair_refusal` meets its contract: the element with its lowest misfit.
 -- Assumes nothing.
-use Rattle.judging.proofs.VerdictLaws.{pair-refused}
+use Rattle.judging.proofs.TableVerdictLaws.{pair-refused}
 use borrow.Author.Needs.{needs}
 use Rattle.judging.proofs.pairs.pair_refusal.Statement.{statement}
 use Rattle.judging.proofs.pairs.pair_refusal.Tie as tie

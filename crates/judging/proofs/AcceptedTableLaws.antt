@@ -24,8 +24,8 @@ use Rattle.tables.proofs.CleanRecordLaws.{record-clean}
 use Rattle.tables.proofs.Theorems.{no-join}
 use Rattle.judging.specs.Judge.{badElement, misfit, pairsJudged, judged}
 use Rattle.judging.specs.Judgement.{Recorded}
-use Rattle.judging.proofs.VerdictLaws.{records-refused, records-passed}
-use Rattle.judging.proofs.FittingLaws.{none-bad-fitting}
+use Rattle.judging.proofs.TableVerdictLaws.{records-refused, records-passed}
+use Rattle.judging.proofs.MisfitLaws.{none-bad-fitting}
 
 module _ (v n : ℕ) (t : List ℕ) where
   -- the records of a table that is refused for a pair

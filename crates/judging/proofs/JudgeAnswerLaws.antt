@@ -11,7 +11,7 @@ use Rattle.judging.specs.declared.JudgeAnswer.{JudgeAnswer}
 use Rattle.judging.specs.declared.JudgeAnswer.the-variants.{Done, Refused}
 use Rattle.judging.specs.Judge.{judged, judgeVerdict, JudgeDone}
 use Rattle.judging.specs.Judgement.{Judging}
-use Rattle.judging.proofs.AcceptedLaws.{accepted-recorded, accepted-elements}
+use Rattle.judging.proofs.AcceptedTableLaws.{accepted-recorded, accepted-elements}
 
 module _ (v n : ℕ) (t : List ℕ) where
   -- the answer of judging
