@@ -18,6 +18,10 @@ Inv-loop face solid corners n i₀ i = Left (some (sameFace (faceOf face))) (fac
 abbrev μ-loop : tie.MeasureT-loop
 μ-loop face solid corners n i₀ i = n - i
 
+-- where the function starts, from its loop
+abbrev start : tie.At-loop Inv-loop μ-loop → tie.Start Inv-loop μ-loop
+start c = c .before .before .before
+
 face-count-requires : tie.Need-face-count-requires Inv-loop μ-loop
 face-count-requires c κs = search needs
 
@@ -32,8 +36,9 @@ same-requires c κs = search needs
 
 returns : tie.Need-returns Inv-loop μ-loop
 returns c =
-    let a = c .before .before .before .before .before .before .before .args in
-    face-here (sameFace (faceOf (a .face))) (a .solid) (now (a .corners)) (c .before .before .before .before .before .face-count .ensures) (c .before .before .before .before .loop .inv) (c .before .before .before .loop-test .taken)
+    let i = c .before .before .before .before in
+    let a = start i .args in
+    face-here (sameFace (faceOf (a .face))) (a .solid) (now (a .corners)) (i .before .face-count .ensures) (i .loop .inv) (c .before .before .before .loop-test .taken)
     (c .before .before .face-of .ensures) (c .before .same .ensures) (c .if1 .taken)
 
 add-i : tie.Need-add-i Inv-loop μ-loop
@@ -44,8 +49,9 @@ loop-less c = search needs
 
 loop-again : tie.Need-loop-again Inv-loop μ-loop
 loop-again c =
-    let a = c .before .before .before .before .before .before .before .args in
-    face-next (sameFace (faceOf (a .face))) (a .solid) (now (a .corners)) (c .before .before .before .before .before .face-count .ensures) (c .before .before .before .before .loop .inv) (c .before .before .before .loop-test .taken)
+    let i = c .before .before .before .before in
+    let a = start i .args in
+    face-next (sameFace (faceOf (a .face))) (a .solid) (now (a .corners)) (i .before .face-count .ensures) (i .loop .inv) (c .before .before .before .loop-test .taken)
     (c .before .before .face-of .ensures) (c .before .same .ensures) (c .if1 .left)
 
 returns-2 : tie.Need-returns-2 Inv-loop μ-loop

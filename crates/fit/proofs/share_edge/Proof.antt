@@ -14,7 +14,7 @@ use Rattle.fit.proofs.share_edge.Tie as tie
 
 -- where the function starts, the vertices and the two elements
 abbrev start : tie.After-all-among → tie.Start
-start c = c .before .before .before .before .before .before .before
+start c = let k = c .before .before .before in k .before .before .before .before
 
 abbrev vertices : tie.After-all-among → List ℕ
 vertices c = now (start c .args .vertices)

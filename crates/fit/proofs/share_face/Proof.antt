@@ -24,6 +24,10 @@ Inv-loop vertices solid corners neighbour others n i₀ i = Left (some (shared v
 abbrev μ-loop : tie.MeasureT-loop
 μ-loop vertices solid corners neighbour others n i₀ i = n - i
 
+-- where the function starts, from its loop
+abbrev start : tie.At-loop Inv-loop μ-loop → tie.Start Inv-loop μ-loop
+start c = c .before .before .before .before .before
+
 face-count-requires : tie.Need-face-count-requires Inv-loop μ-loop
 face-count-requires c κs = search needs
 
@@ -38,9 +42,10 @@ is-shared-requires c κs = search needs
 
 returns : tie.Need-returns Inv-loop μ-loop
 returns c =
-    let a = c .before .before .before .before .before .before .before .before .before .args in
-    face-here (shared (now (a .vertices)) (element (a .neighbour) (now (a .others)))) (a .solid) (now (a .corners)) (c .before .before .before .before .before .face-count .ensures)
-    (c .before .before .before .before .loop .inv) (c .before .before .before .loop-test .taken) (c .before .before .face-of .ensures) (c .before .is-shared .ensures) (c .if1 .taken)
+    let i = c .before .before .before .before in
+    let a = start i .args in
+    face-here (shared (now (a .vertices)) (element (a .neighbour) (now (a .others)))) (a .solid) (now (a .corners)) (i .before .face-count .ensures)
+    (i .loop .inv) (c .before .before .before .loop-test .taken) (c .before .before .face-of .ensures) (c .before .is-shared .ensures) (c .if1 .taken)
 
 add-i : tie.Need-add-i Inv-loop μ-loop
 add-i c = search needs
@@ -50,15 +55,17 @@ loop-less c = search needs
 
 loop-again : tie.Need-loop-again Inv-loop μ-loop
 loop-again c =
-    let a = c .before .before .before .before .before .before .before .before .before .args in
-    face-next (shared (now (a .vertices)) (element (a .neighbour) (now (a .others)))) (a .solid) (now (a .corners)) (c .before .before .before .before .before .face-count .ensures)
-    (c .before .before .before .before .loop .inv) (c .before .before .before .loop-test .taken) (c .before .before .face-of .ensures) (c .before .is-shared .ensures) (c .if1 .left)
+    let i = c .before .before .before .before in
+    let a = start i .args in
+    face-next (shared (now (a .vertices)) (element (a .neighbour) (now (a .others)))) (a .solid) (now (a .corners)) (i .before .face-count .ensures)
+    (i .loop .inv) (c .before .before .before .loop-test .taken) (c .before .before .face-of .ensures) (c .before .is-shared .ensures) (c .if1 .left)
 
 returns-2 : tie.Need-returns-2 Inv-loop μ-loop
 returns-2 c =
-    let a = c .before .before .before .before .before .before .args in
-    face-end (shared (now (a .vertices)) (element (a .neighbour) (now (a .others)))) (a .solid) (now (a .corners)) (c .before .before .face-count .ensures)
-    (c .before .loop .inv) (c .loop-test .left)
+    let i = c .before in
+    let a = start i .args in
+    face-end (shared (now (a .vertices)) (element (a .neighbour) (now (a .others)))) (a .solid) (now (a .corners)) (i .before .face-count .ensures)
+    (i .loop .inv) (c .loop-test .left)
 
 pub share-face-spec : {M : Type 1} → statement M
 share-face-spec =

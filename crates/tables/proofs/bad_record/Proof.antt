@@ -20,6 +20,10 @@ Inv-loop table limit n k₀ k = (k ≤ n) × (badRecord limit table k ≡ 0)
 abbrev μ-loop : tie.MeasureT-loop
 μ-loop table limit n k₀ k = n - k
 
+-- where the function starts, from its loop
+abbrev first : tie.At-loop Inv-loop μ-loop → tie.Start Inv-loop μ-loop
+first c = c .before .before
+
 -- the test of record k, and what the calls say of it
 module _ (limit : ℕ) (t : List ℕ) where
   abbrev test : ℕ → Bool
@@ -62,8 +66,9 @@ add-result c = search needs
 
 returns : tie.Need-returns Inv-loop μ-loop
 returns c =
-    let a = c .before .before .before .before .before .before .before .args in
-    let l = c .before .before .before .before .before .loop in
+    let i = c .before .before .before .before .before in
+    let a = first i .args in
+    let l = i .loop in
     found (a .limit) (a .table .now) (l .k) (a .n) (l .inv .1)
     (tested (a .limit) (a .table .now) (l .k) (c .before .before .before .record-at .ensures) (c .before .before .judge-record .ensures) (c .before .is-fault .ensures) (c .if1 .taken))
     (c .before .before .before .before .loop-test .taken)
@@ -76,8 +81,9 @@ loop-less c = search needs
 
 loop-again : tie.Need-loop-again Inv-loop μ-loop
 loop-again c =
-    let a = c .before .before .before .before .before .before .before .args in
-    let l = c .before .before .before .before .before .loop in (
+    let i = c .before .before .before .before .before in
+    let a = first i .args in
+    let l = i .loop in (
       search needs,
       next (a .limit) (a .table .now) (l .k) (l .inv .1)
           (tested (a .limit) (a .table .now) (l .k) (c .before .before .before .record-at .ensures) (c .before .before .judge-record .ensures) (c .before .is-fault .ensures) (c .if1 .left)),

@@ -18,6 +18,10 @@ Inv-loop list others i₀ i = Left (every (λ v. among v others)) list i
 abbrev μ-loop : tie.MeasureT-loop
 μ-loop list others i₀ i = length list - i
 
+-- where the function starts, from its loop
+abbrev start : tie.At-loop Inv-loop μ-loop → tie.Start Inv-loop μ-loop
+start c = c .before .before .before
+
 loop-holds : tie.Need-loop-holds Inv-loop μ-loop
 loop-holds c = left-start _ _
 
@@ -31,7 +35,9 @@ is-among-requires : tie.Need-is-among-requires Inv-loop μ-loop
 is-among-requires c κs = search needs
 
 returns : tie.Need-returns Inv-loop μ-loop
-returns c = every-here (λ v. among v (now (c .before .before .before .before .before .before .before .args .others))) 0 (c .before .before .before .before .loop .inv) (c .before .before .before .loop-test .taken) (sym (c .before .is-among .ensures) ∙ not-true _ (c .if1 .taken))
+returns c =
+    let i = c .before .before .before .before in
+    every-here (λ v. among v (now (start i .args .others))) 0 (i .loop .inv) (c .before .before .before .loop-test .taken) (sym (c .before .is-among .ensures) ∙ not-true _ (c .if1 .taken))
 
 add-i : tie.Need-add-i Inv-loop μ-loop
 add-i c = search needs
@@ -40,7 +46,9 @@ loop-less : tie.Need-loop-less Inv-loop μ-loop
 loop-less c = search needs
 
 loop-again : tie.Need-loop-again Inv-loop μ-loop
-loop-again c = every-next (λ v. among v (now (c .before .before .before .before .before .before .before .args .others))) 0 (c .before .before .before .before .loop .inv) (c .before .before .before .loop-test .taken) (sym (c .before .is-among .ensures) ∙ not-false _ (c .if1 .left))
+loop-again c =
+    let i = c .before .before .before .before in
+    every-next (λ v. among v (now (start i .args .others))) 0 (i .loop .inv) (c .before .before .before .loop-test .taken) (sym (c .before .is-among .ensures) ∙ not-false _ (c .if1 .left))
 
 returns-2 : tie.Need-returns-2 Inv-loop μ-loop
 returns-2 c = every-end (λ v. among v (now (c .before .before .before .before .args .others))) 0 (c .before .loop .inv) (c .loop-test .left)

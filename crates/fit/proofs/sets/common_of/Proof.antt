@@ -38,6 +38,10 @@ Inv-loop corners others found₀ count₀ i₀ found count i = Going corners oth
 abbrev μ-loop : tie.MeasureT-loop
 μ-loop corners others found₀ count₀ i₀ found count i = length corners - i
 
+-- where the function starts, from its loop
+abbrev start : tie.At-loop Inv-loop μ-loop → tie.Start Inv-loop μ-loop
+start c = c .before .before .before .before
+
 loop-holds : tie.Need-loop-holds Inv-loop μ-loop
 loop-holds c = record { kept = kept-start _ _ _; size = refl }
 
@@ -51,10 +55,14 @@ is-among-requires : tie.Need-is-among-requires Inv-loop μ-loop
 is-among-requires c κs = search needs
 
 mul-found : tie.Need-mul-found Inv-loop μ-loop
-mul-found c = let h = room (c .before .before .before .before .loop .inv) (c .before .before .before .before .before .before .before .before .pre) (c .before .before .before .loop-test .taken) in search needs
+mul-found c =
+    let i = c .before .before .before .before in
+    let h = room (i .loop .inv) (start i .pre) (c .before .before .before .loop-test .taken) in search needs
 
 slice-write-found : tie.Need-slice-write-found Inv-loop μ-loop
-slice-write-found c = room (c .before .before .before .before .loop .inv) (c .before .before .before .before .before .before .before .before .pre) (c .before .before .before .loop-test .taken)
+slice-write-found c =
+    let i = c .before .before .before .before in
+    room (i .loop .inv) (start i .pre) (c .before .before .before .loop-test .taken)
 
 add-count : tie.Need-add-count Inv-loop μ-loop
 add-count c = omega (arith, c .before .before .before .before .loop .inv .kept .few)
@@ -67,10 +75,11 @@ loop-less c = search needs
 
 loop-again : tie.Need-loop-again Inv-loop μ-loop
 loop-again c =
-    let w = c .before .before .before .before .loop .inv in
+    let i = c .before .before .before .before in
+    let w = i .loop .inv in
     let h = c .before .before .before .loop-test .taken in
     ⊎-elim
-    (λ a. rw (a .1, a .2) (passes w (c .before .before .before .before .before .before .before .before .pre) h (sym (c .before .is-among .ensures) ∙ a .0 .taken)))
+    (λ a. rw (a .1, a .2) (passes w (start i .pre) h (sym (c .before .is-among .ensures) ∙ a .0 .taken)))
     (λ a. rw (a .1, a .2) (fails w h (sym (c .before .is-among .ensures) ∙ a .0 .left)))
     (c .if1 .came)
 

@@ -23,6 +23,10 @@ Inv-loop table j heads links seen₀ v x₀ seen x = On table j v seen₀ seen x
 abbrev μ-loop : tie.MeasureT-loop
 μ-loop table j heads links seen₀ v x₀ seen x = x
 
+-- where the function starts, from its loop
+abbrev start : tie.At-loop Inv-loop μ-loop → tie.Start Inv-loop μ-loop
+start c = c .before .before .before .before .before
+
 -- the element of place x is before j, and the place before x of the same vertex is the next of the chain
 module _ {t : List ℕ} {j v x : ℕ} {old new : List ℕ} (w : On t j v old new x) (h : 0 < x) where
   early : x / elementWidth < j
@@ -79,45 +83,53 @@ loop-holds c =
 
 fits-again-requires : tie.Need-fits-again-requires Inv-loop μ-loop
 fits-again-requires c κs =
-    let l = c .before .before .loop in
-    record { table = c .before .before .before .before .before .before .before .pre .table; early = early (l .inv .0) (c .before .loop-test .taken); seen = l .inv .1 }
+    let i = c .before .before in
+    let l = i .loop in
+    record { table = start i .pre .table; early = early (l .inv .0) (c .before .loop-test .taken); seen = l .inv .1 }
 
 returns : tie.Need-returns Inv-loop μ-loop
 returns c =
-    let l = c .before .before .before .before .loop in
-    renamed (c .before .before .before .before .before .before .before .chain-of .ensures)
+    let i = c .before .before .before .before in
+    let l = i .loop in
+    renamed (i .before .before .before .chain-of .ensures)
     (missed (l .inv .0) (c .before .before .before .loop-test .taken) (c .before .fits-again .ensures) (not-true (c .before .fits-again .result) (c .if1 .taken)))
 
 mul-wide-2 : tie.Need-mul-wide-2 Inv-loop μ-loop
 mul-wide-2 c =
-    let h = c .before .before .before .before .loop .inv .0 .less (c .before .before .before .loop-test .taken) in
-    omega (arith, c .before .before .before .before .before .before .before .before .before .pre .table .few)
+    let i = c .before .before .before .before in
+    let h = i .loop .inv .0 .less (c .before .before .before .loop-test .taken) in
+    omega (arith, start i .pre .table .few)
 
 element-copy-out-wide-2 : tie.Need-element-copy-out-wide-2 Inv-loop μ-loop
 element-copy-out-wide-2 c =
-    let h = c .before .before .before .before .loop .inv .0 .less (c .before .before .before .loop-test .taken) in
-    omega (arith, c .before .before .before .before .before .before .before .before .before .pre .table .few)
+    let i = c .before .before .before .before in
+    let h = i .loop .inv .0 .less (c .before .before .before .loop-test .taken) in
+    omega (arith, start i .pre .table .few)
 
 wide-requires-2 : tie.Need-wide-requires-2 Inv-loop μ-loop
 wide-requires-2 c κs = search needs
 
 loop-less : tie.Need-loop-less Inv-loop μ-loop
 loop-less c =
-    let l = c .before .before .before .before .before .before .loop in
-    let h = c .before .before .before .before .before .loop-test .taken in
-    let p = c .before .before .before .before .before .before .before .before .before .before .before .pre in
+    let k = c .before .before .before .before .before in
+    let i = k .before in
+    let l = i .loop in
+    let h = k .loop-test .taken in
+    let p = start i .pre in
     let e = next-place (l .inv .0) h (p .filed) (c .wide2 .ensures) in
     let n = latest-less _ (l .x) h in
     rw e n
 
 loop-again : tie.Need-loop-again Inv-loop μ-loop
 loop-again c =
-    let l = c .before .before .before .before .before .before .loop in
-    let h = c .before .before .before .before .before .loop-test .taken in
-    let p = c .before .before .before .before .before .before .before .before .before .before .before .pre in
-    let a = c .before .before .before .before .before .before .before .before .before .before .before .args in
+    let k = c .before .before .before .before .before in
+    let i = k .before in
+    let l = i .loop in
+    let h = k .loop-test .taken in
+    let p = start i .pre in
+    let a = start i .args in
     let f = c .before .before .before .fits-again in (
-      on-next (now (a .table)) (a .j) (c .before .before .before .before .before .before .before .before .before .chain-of .result) (now (a .seen)) (l .x) (c .wide2 .result) (l .inv .0) h
+      on-next (now (a .table)) (a .j) (i .before .before .before .chain-of .result) (now (a .seen)) (l .x) (c .wide2 .result) (l .inv .0) h
           (f .ensures) (not-false (f .result) (c .before .before .if1 .left)) (next-place (l .inv .0) h (p .filed) (c .wide2 .ensures)),
       f .ensures .seen,
     )

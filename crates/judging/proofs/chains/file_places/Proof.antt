@@ -19,6 +19,10 @@ Inv-loop table j heads₀ links₀ start end x₀ heads links x = (elementWidth 
 abbrev μ-loop : tie.MeasureT-loop
 μ-loop table j heads₀ links₀ start end x₀ heads links x = elementWidth * j + elementWidth - x
 
+-- where the function starts, from its loop
+abbrev start : tie.At-loop Inv-loop μ-loop → tie.Start Inv-loop μ-loop
+start c = c .before .before
+
 mul-start : tie.Need-mul-start Inv-loop μ-loop
 mul-start c = omega (arith, c .before .pre .table .table .few)
 
@@ -59,32 +63,45 @@ element-copy-out-links : tie.Need-element-copy-out-links Inv-loop μ-loop
 element-copy-out-links c = let h = low-here (now (c .before .before .before .before .before .args .table)) (c .before .before .before .before .before .args .j) (c .before .before .before .loop .x) (c .before .before .before .loop .inv .0) (c .before .before .loop-test .taken) (c .before .before .before .before .before .pre .table) (c .chain-of .ensures) in omega arith
 
 mul-links-3 : tie.Need-mul-links-3 Inv-loop μ-loop
-mul-links-3 c = omega (arith, c .before .before .before .before .before .before .pre .table .table .few)
+mul-links-3 c =
+    let i = c .before .before .before .before in
+    omega (arith, start i .pre .table .table .few)
 
 element-write-links : tie.Need-element-write-links Inv-loop μ-loop
-element-write-links c = omega (arith, c .before .before .before .before .before .before .pre .table .table .few)
+element-write-links c =
+    let i = c .before .before .before .before in
+    omega (arith, start i .pre .table .table .few)
 
 cast-heads : tie.Need-cast-heads Inv-loop μ-loop
-cast-heads c = omega (arith, c .before .before .before .before .before .before .pre .table .table .few)
+cast-heads c =
+    let i = c .before .before .before .before in
+    omega (arith, start i .pre .table .table .few)
 
 mul-heads : tie.Need-mul-heads Inv-loop μ-loop
-mul-heads c = let h = low-here (now (c .before .before .before .before .before .before .args .table)) (c .before .before .before .before .before .before .args .j) (c .before .before .before .before .loop .x) (c .before .before .before .before .loop .inv .0) (c .before .before .before .loop-test .taken) (c .before .before .before .before .before .before .pre .table) (c .before .chain-of .ensures) in omega arith
+mul-heads c =
+    let i = c .before .before .before .before in
+    let h = low-here (now (start i .args .table)) (start i .args .j) (i .loop .x) (i .loop .inv .0) (c .before .before .before .loop-test .taken) (start i .pre .table) (c .before .chain-of .ensures) in omega arith
 
 element-write-heads : tie.Need-element-write-heads Inv-loop μ-loop
-element-write-heads c = let h = low-here (now (c .before .before .before .before .before .before .args .table)) (c .before .before .before .before .before .before .args .j) (c .before .before .before .before .loop .x) (c .before .before .before .before .loop .inv .0) (c .before .before .before .loop-test .taken) (c .before .before .before .before .before .before .pre .table) (c .before .chain-of .ensures) in omega arith
+element-write-heads c =
+    let i = c .before .before .before .before in
+    let h = low-here (now (start i .args .table)) (start i .args .j) (i .loop .x) (i .loop .inv .0) (c .before .before .before .loop-test .taken) (start i .pre .table) (c .before .chain-of .ensures) in omega arith
 
 add-x-2 : tie.Need-add-x-2 Inv-loop μ-loop
-add-x-2 c = omega (arith, c .before .before .before .before .before .before .pre .table .table .few)
+add-x-2 c =
+    let i = c .before .before .before .before in
+    omega (arith, start i .pre .table .table .few)
 
 loop-less : tie.Need-loop-less Inv-loop μ-loop
 loop-less c = omega arith
 
 loop-again : tie.Need-loop-again Inv-loop μ-loop
 loop-again c =
-    let l = c .before .before .before .before .loop in (
+    let i = c .before .before .before .before in
+    let l = i .loop in (
       omega arith,
       omega arith,
-      filed-here (now (c .before .before .before .before .before .before .args .table)) (c .before .before .before .before .before .before .args .j) (l .x) (l .inv .0) (c .before .before .before .loop-test .taken) (c .before .before .before .before .before .before .pre .table) (c .before .chain-of .ensures) (l .inv .2),
+      filed-here (now (start i .args .table)) (start i .args .j) (l .x) (l .inv .0) (c .before .before .before .loop-test .taken) (start i .pre .table) (c .before .chain-of .ensures) (l .inv .2),
     )
 
 returns : tie.Need-returns Inv-loop μ-loop

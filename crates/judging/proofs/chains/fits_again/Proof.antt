@@ -9,6 +9,10 @@ use Rattle.judging.proofs.ChainLaws.{pair-verdict, met-first, met-known
 use Rattle.judging.proofs.chains.fits_again.Statement.{statement}
 use Rattle.judging.proofs.chains.fits_again.Tie as tie
 
+-- where the function starts, from the second test
+abbrev start : tie.Else2 → tie.Start
+start c = c .before .before .before .before .before
+
 element-copy-out-if1 : tie.Need-element-copy-out-if1
 element-copy-out-if1 c = omega (arith, c .before .pre .early, c .before .pre .table .few)
 
@@ -35,16 +39,20 @@ pair-fits-requires c κs = search needs
 
 returns-3 : tie.Need-returns-3
 returns-3 c =
-    met-bad (now (c .before .before .before .before .before .before .before .before .before .args .table)) (c .before .before .before .before .before .before .before .before .before .args .i) (c .before .before .before .before .before .before .before .before .before .args .j) (now (c .before .before .before .before .before .before .before .before .before .args .seen)) (c .before .before .before .before .before .before .before .before .before .pre)
-    (sym (pair-verdict (now (c .before .before .before .before .before .before .before .before .before .args .table)) (c .before .before .before .before .before .before .before .before .before .args .i) (c .before .before .before .before .before .before .before .before .before .args .j) (c .before .before .before .record-at .ensures) (c .before .before .record-at2 .ensures) (c .before .pair-fits .ensures)) ∙ not-true (c .before .pair-fits .result) (c .if3 .taken))
+    let s = start (c .before .before .before .before) in
+    met-bad (now (s .args .table)) (s .args .i) (s .args .j) (now (s .args .seen)) (s .pre)
+    (sym (pair-verdict (now (s .args .table)) (s .args .i) (s .args .j) (c .before .before .before .record-at .ensures) (c .before .before .record-at2 .ensures) (c .before .pair-fits .ensures)) ∙ not-true (c .before .pair-fits .result) (c .if3 .taken))
 
 element-write-seen-2 : tie.Need-element-write-seen-2
-element-write-seen-2 c = omega (arith, c .before .before .before .before .before .before .before .before .before .pre .early, c .before .before .before .before .before .before .before .before .before .pre .table .few)
+element-write-seen-2 c =
+    let s = start (c .before .before .before .before) in
+    omega (arith, s .pre .early, s .pre .table .few)
 
 returns-4 : tie.Need-returns-4
 returns-4 c =
-    met-fit (now (c .before .before .before .before .before .before .before .before .before .args .table)) (c .before .before .before .before .before .before .before .before .before .args .i) (c .before .before .before .before .before .before .before .before .before .args .j) (now (c .before .before .before .before .before .before .before .before .before .args .seen)) (c .before .before .before .before .before .before .before .before .before .pre) (c .before .before .before .before .if2 .left)
-    (sym (pair-verdict (now (c .before .before .before .before .before .before .before .before .before .args .table)) (c .before .before .before .before .before .before .before .before .before .args .i) (c .before .before .before .before .before .before .before .before .before .args .j) (c .before .before .before .record-at .ensures) (c .before .before .record-at2 .ensures) (c .before .pair-fits .ensures)) ∙ not-false (c .before .pair-fits .result) (c .if3 .left))
+    let s = start (c .before .before .before .before) in
+    met-fit (now (s .args .table)) (s .args .i) (s .args .j) (now (s .args .seen)) (s .pre) (c .before .before .before .before .if2 .left)
+    (sym (pair-verdict (now (s .args .table)) (s .args .i) (s .args .j) (c .before .before .before .record-at .ensures) (c .before .before .record-at2 .ensures) (c .before .pair-fits .ensures)) ∙ not-false (c .before .pair-fits .result) (c .if3 .left))
 
 pub fits-again-spec : {M : Type 1} → statement M
 fits-again-spec =

@@ -66,6 +66,20 @@ Inv-loop table j heads links kind start end seen₀ x₀ seen x = Passed table j
 abbrev μ-loop : tie.MeasureT-loop
 μ-loop table j heads links kind start end seen₀ x₀ seen x = end - x
 
+-- where the function starts, from the kind of its element and from its loop
+abbrev first : tie.After-wide Inv-loop μ-loop → tie.Start Inv-loop μ-loop
+first c = c .before .before .before .before
+
+abbrev start : tie.At-loop Inv-loop μ-loop → tie.Start Inv-loop μ-loop
+start c = first (c .before)
+
+-- the kind is that of record j, and at most 8
+kind : (c : tie.After-wide Inv-loop μ-loop) → c .wide .result ≡ kindOf (recordAt (now (first c .args .table)) (first c .args .j))
+kind c = kind-here (now (first c .args .table)) (first c .args .j) (c .wide .ensures) (c .before .kind-of .ensures) (c .before .before .record-at .ensures)
+
+few : (c : tie.After-wide Inv-loop μ-loop) → c .wide .result ≤ 8
+few c = few-corners (now (first c .args .table)) (first c .args .j) (first c .pre .table .table) (kind c)
+
 record-at-requires : tie.Need-record-at-requires Inv-loop μ-loop
 record-at-requires c κs = search needs
 
@@ -76,15 +90,15 @@ wide-requires : tie.Need-wide-requires Inv-loop μ-loop
 wide-requires c κs = search needs
 
 mul-start : tie.Need-mul-start Inv-loop μ-loop
-mul-start c = omega (arith, c .before .before .before .before .pre .table .table .few)
+mul-start c = omega (arith, first c .pre .table .table .few)
 
 add-start : tie.Need-add-start Inv-loop μ-loop
-add-start c = omega (arith, c .before .before .before .before .pre .table .table .few)
+add-start c = omega (arith, first c .pre .table .table .few)
 
 add-end : tie.Need-add-end Inv-loop μ-loop
 add-end c =
-    let h = few-corners (now (c .before .before .before .before .args .table)) (c .before .before .before .before .args .j) (c .before .before .before .before .pre .table .table) (kind-here (now (c .before .before .before .before .args .table)) (c .before .before .before .before .args .j) (c .wide .ensures) (c .before .kind-of .ensures) (c .before .before .record-at .ensures)) in
-    omega (arith, c .before .before .before .before .pre .table .table .few)
+    let h = few c in
+    omega (arith, first c .pre .table .table .few)
 
 loop-holds : tie.Need-loop-holds Inv-loop μ-loop
 loop-holds c =
@@ -93,21 +107,24 @@ loop-holds c =
 
 mul-t14 : tie.Need-mul-t14 Inv-loop μ-loop
 mul-t14 c =
-    let h = few-corners (now (c .before .before .before .before .before .before .args .table)) (c .before .before .before .before .before .before .args .j) (c .before .before .before .before .before .before .pre .table .table) (kind-here (now (c .before .before .before .before .before .before .args .table)) (c .before .before .before .before .before .before .args .j) (c .before .before .wide .ensures) (c .before .before .before .kind-of .ensures) (c .before .before .before .before .record-at .ensures)) in
-    omega (arith, c .before .before .before .before .before .before .pre .table .table .few)
+    let i = c .before in
+    let h = few (i .before) in
+    omega (arith, start i .pre .table .table .few)
 
 shared-slice-read-t16 : tie.Need-shared-slice-read-t16 Inv-loop μ-loop
 shared-slice-read-t16 c =
-    let h = few-corners (now (c .before .before .before .before .before .before .before .args .table)) (c .before .before .before .before .before .before .before .args .j) (c .before .before .before .before .before .before .before .pre .table .table) (kind-here (now (c .before .before .before .before .before .before .before .args .table)) (c .before .before .before .before .before .before .before .args .j) (c .before .before .before .wide .ensures) (c .before .before .before .before .kind-of .ensures) (c .before .before .before .before .before .record-at .ensures)) in
-    omega (arith, c .before .before .before .before .before .before .before .pre .table .table .long)
+    let i = c .before .before in
+    let h = few (i .before) in
+    omega (arith, start i .pre .table .table .long)
 
 chain-fits-requires : tie.Need-chain-fits-requires Inv-loop μ-loop
 chain-fits-requires c κs =
-    let p = c .before .before .before .before .before .before .before .before .pre in
-    let l = c .before .before .before .loop in
-    let h = few-corners (now (c .before .before .before .before .before .before .before .before .args .table)) (c .before .before .before .before .before .before .before .before .args .j) (c .before .before .before .before .before .before .before .before .pre .table .table) (kind-here (now (c .before .before .before .before .before .before .before .before .args .table)) (c .before .before .before .before .before .before .before .before .args .j) (c .before .before .before .before .wide .ensures) (c .before .before .before .before .before .kind-of .ensures) (c .before .before .before .before .before .before .record-at .ensures)) in
-    let k : elementWidth * c .before .before .before .before .before .before .before .before .args .j < l .x = l .inv .high in
-    let n : l .x < elementWidth * c .before .before .before .before .before .before .before .before .args .j + 1 + c .before .before .before .before .wide .result = c .before .before .loop-test .taken in
+    let i = c .before .before .before in
+    let p = start i .pre in
+    let l = i .loop in
+    let h = few (i .before) in
+    let k : elementWidth * start i .args .j < l .x = l .inv .high in
+    let n : l .x < elementWidth * start i .args .j + 1 + i .before .wide .result = c .before .before .loop-test .taken in
     record {
       table = p .table .table;
       low = p .table .low (l .x) (omega arith) (omega arith);
@@ -120,8 +137,9 @@ returns c = misfit-here (c .before .chain-fits .ensures) (not-true (c .before .c
 
 add-x : tie.Need-add-x Inv-loop μ-loop
 add-x c =
-    let h = few-corners (now (c .before .before .before .before .before .before .before .before .before .before .args .table)) (c .before .before .before .before .before .before .before .before .before .before .args .j) (c .before .before .before .before .before .before .before .before .before .before .pre .table .table) (kind-here (now (c .before .before .before .before .before .before .before .before .before .before .args .table)) (c .before .before .before .before .before .before .before .before .before .before .args .j) (c .before .before .before .before .before .before .wide .ensures) (c .before .before .before .before .before .before .before .kind-of .ensures) (c .before .before .before .before .before .before .before .before .record-at .ensures)) in
-    omega (arith, c .before .before .before .before .before .before .before .before .before .before .pre .table .table .few)
+    let i = c .before .before .before .before .before in
+    let h = few (i .before) in
+    omega (arith, start i .pre .table .table .few)
 
 loop-less : tie.Need-loop-less Inv-loop μ-loop
 loop-less c = omega arith
@@ -130,7 +148,9 @@ loop-again : tie.Need-loop-again Inv-loop μ-loop
 loop-again c = passed-more (c .before .before .before .before .before .loop .inv) (c .before .chain-fits .ensures) (not-false (c .before .chain-fits .result) (c .if1 .left))
 
 returns-2 : tie.Need-returns-2 Inv-loop μ-loop
-returns-2 c = none-left (c .before .loop .inv) (c .before .before .before .before .before .before .pre .table .table) (kind-here (now (c .before .before .before .before .before .before .args .table)) (c .before .before .before .before .before .before .args .j) (c .before .before .wide .ensures) (c .before .before .before .kind-of .ensures) (c .before .before .before .before .record-at .ensures)) (c .loop-test .left)
+returns-2 c =
+    let i = c .before in
+    none-left (i .loop .inv) (start i .pre .table .table) (kind (i .before)) (c .loop-test .left)
 
 pub fits-all-spec : {M : Type 1} → statement M
 fits-all-spec =

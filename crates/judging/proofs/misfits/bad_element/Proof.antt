@@ -40,6 +40,10 @@ Inv-loop table n heads₀ links₀ j₀ heads links j = Going table n j heads li
 abbrev μ-loop : tie.MeasureT-loop
 μ-loop table n heads₀ links₀ j₀ heads links j = n - j
 
+-- where the function starts, from its loop
+abbrev start : tie.At-loop Inv-loop μ-loop → tie.Start Inv-loop μ-loop
+start c = c .before .before
+
 loop-holds : tie.Need-loop-holds Inv-loop μ-loop
 loop-holds c = record { failed = failed-start _ _; filed = filed-start (now (c .before .args .table)) }
 
@@ -47,28 +51,40 @@ fits-all-requires : tie.Need-fits-all-requires Inv-loop μ-loop
 fits-all-requires c κs = joining (c .before .before .before .before .before .pre) (c .before .before .before .loop .inv) (c .before .before .loop-test .taken)
 
 add-result : tie.Need-add-result Inv-loop μ-loop
-add-result c = omega (arith, c .before .before .before .before .before .before .before .pre .table .few)
+add-result c =
+    let i = c .before .before .before .before .before in
+    omega (arith, start i .pre .table .few)
 
 returns : tie.Need-returns Inv-loop μ-loop
 unfolding badElement
 returns c =
-    failed-here (bad (now (c .before .before .before .before .before .before .before .args .table))) (c .before .before .before .before .before .loop .inv .failed) (c .before .before .before .before .loop-test .taken)
-    (found (now (c .before .before .before .before .before .before .before .args .table)) (c .before .before .before .before .before .loop .j) (c .before .fits-all .ensures) (c .if1 .taken))
+    let i = c .before .before .before .before .before in
+    failed-here (bad (now (start i .args .table))) (i .loop .inv .failed) (c .before .before .before .before .loop-test .taken)
+    (found (now (start i .args .table)) (i .loop .j) (c .before .fits-all .ensures) (c .if1 .taken))
 
 file-places-requires : tie.Need-file-places-requires Inv-loop μ-loop
-file-places-requires c κs = joining (c .before .before .before .before .before .before .before .before .before .pre) (c .before .before .before .before .before .before .before .loop .inv) (c .before .before .before .before .before .before .loop-test .taken)
+file-places-requires c κs =
+    let k = c .before .before in
+    let i = k .before .before .before .before .before in
+    joining (start i .pre) (i .loop .inv) (k .before .before .before .before .loop-test .taken)
 
 add-j : tie.Need-add-j Inv-loop μ-loop
-add-j c = omega (arith, c .before .before .before .before .before .before .before .before .before .before .pre .table .few)
+add-j c =
+    let k = c .before .before .before in
+    let i = k .before .before .before .before .before in
+    omega (arith, start i .pre .table .few)
 
 loop-less : tie.Need-loop-less Inv-loop μ-loop
 loop-less c = omega arith
 
 loop-again : tie.Need-loop-again Inv-loop μ-loop
-loop-again c = record {
-  failed = failed-next (bad (now (c .before .before .before .before .before .before .before .before .before .before .args .table))) (c .before .before .before .before .before .before .before .before .loop .inv .failed) (c .before .before .before .before .before .before .before .loop-test .taken) (passed (now (c .before .before .before .before .before .before .before .before .before .before .args .table)) (c .before .before .before .before .before .before .before .before .loop .j) (c .before .before .before .before .fits-all .ensures) (c .before .before .before .if1 .left));
-  filed = c .file-places .ensures;
-}
+loop-again c =
+    let k = c .before .before .before in
+    let i = k .before .before .before .before .before in
+    record {
+      failed = failed-next (bad (now (start i .args .table))) (i .loop .inv .failed) (k .before .before .before .before .loop-test .taken) (passed (now (start i .args .table)) (i .loop .j) (k .before .fits-all .ensures) (k .if1 .left));
+      filed = c .file-places .ensures;
+    }
 
 returns-2 : tie.Need-returns-2 Inv-loop μ-loop
 unfolding badElement

@@ -22,6 +22,10 @@ Inv-loop table j element i₀ i = Failed (bad table j) j i
 abbrev μ-loop : tie.MeasureT-loop
 μ-loop table j element i₀ i = j - i
 
+-- where the function starts, from its loop
+abbrev start : tie.At-loop Inv-loop μ-loop → tie.Start Inv-loop μ-loop
+start c = c .before .before .before
+
 record-at-requires : tie.Need-record-at-requires Inv-loop μ-loop
 record-at-requires c κs = search needs
 
@@ -40,9 +44,10 @@ add-result c = search needs
 returns : tie.Need-returns Inv-loop μ-loop
 unfolding misfit
 returns c =
-    let a = c .before .before .before .before .before .before .before .args in
-    failed-here (bad (now (a .table)) (a .j)) (c .before .before .before .before .loop .inv) (c .before .before .before .loop-test .taken)
-    (sym (ap not (pair-verdict (now (a .table)) (c .before .before .before .before .loop .i) (a .j) (c .before .before .record-at2 .ensures) (c .before .before .before .before .before .record-at .ensures) (c .before .pair-fits .ensures))) ∙ c .if1 .taken)
+    let k = c .before .before .before .before in
+    let a = start k .args in
+    failed-here (bad (now (a .table)) (a .j)) (k .loop .inv) (c .before .before .before .loop-test .taken)
+    (sym (ap not (pair-verdict (now (a .table)) (k .loop .i) (a .j) (c .before .before .record-at2 .ensures) (k .before .record-at .ensures) (c .before .pair-fits .ensures))) ∙ c .if1 .taken)
 
 add-i : tie.Need-add-i Inv-loop μ-loop
 add-i c = search needs
@@ -52,9 +57,10 @@ loop-less c = search needs
 
 loop-again : tie.Need-loop-again Inv-loop μ-loop
 loop-again c =
-    let a = c .before .before .before .before .before .before .before .args in
-    failed-next (bad (now (a .table)) (a .j)) (c .before .before .before .before .loop .inv) (c .before .before .before .loop-test .taken)
-    (sym (ap not (pair-verdict (now (a .table)) (c .before .before .before .before .loop .i) (a .j) (c .before .before .record-at2 .ensures) (c .before .before .before .before .before .record-at .ensures) (c .before .pair-fits .ensures))) ∙ c .if1 .left)
+    let k = c .before .before .before .before in
+    let a = start k .args in
+    failed-next (bad (now (a .table)) (a .j)) (k .loop .inv) (c .before .before .before .loop-test .taken)
+    (sym (ap not (pair-verdict (now (a .table)) (k .loop .i) (a .j) (c .before .before .record-at2 .ensures) (k .before .record-at .ensures) (c .before .pair-fits .ensures))) ∙ c .if1 .left)
 
 returns-2 : tie.Need-returns-2 Inv-loop μ-loop
 unfolding misfit
