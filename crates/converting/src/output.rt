@@ -1,6 +1,8 @@
 // The text of a cut mesh, put from the front of lent memory: vertices, tetrahedra, EN.
 use limits::TETRAHEDRON_WIDTH;
 use limits::VERTEX_WIDTH;
+use records::tetrahedron_record;
+use solids::Vertex;
 use writing::WriteAnswer;
 use writing::write_element;
 use writing::write_end;
@@ -60,11 +62,11 @@ fn put_tetrahedron(tetrahedra: &[u16], k: usize, out: &mut [u8]) -> usize
     ensures { λ r. ⌜ Put longestTetrahedron (tetrahedronText (now (tetrahedra .entry)) k) (now (out .entry)) r (now (out .exit)) ⌝ }
 {
     let at = TETRAHEDRON_WIDTH * k;
-    let a = tetrahedra[at];
-    let b = tetrahedra[at + 1];
-    let c = tetrahedra[at + 2];
-    let d = tetrahedra[at + 3];
-    length_in(write_element([4, a, b, c, d, 0, 0, 0, 0], out))
+    let a = Vertex(tetrahedra[at]);
+    let b = Vertex(tetrahedra[at + 1]);
+    let c = Vertex(tetrahedra[at + 2]);
+    let d = Vertex(tetrahedra[at + 3]);
+    length_in(write_element(tetrahedron_record(a, b, c, d), out))
 }
 
 // The lines of the tetrahedra; their length.

@@ -1,7 +1,8 @@
 // The element record: its fields, and how it is judged. The definitions stand in specs/, what is proved of them in proofs/Theorems.antt.
 ghost use mathlib.Core.Path.{_≡_};
 ghost use Rattle.laws.specs.Words.{some, among, distinct};
-ghost use Rattle.records.specs.Record.{kindOf, isKind, solidOf, cornerAt, strayVertex, notZero, recordFinding, recordCount, recordAt};
+ghost use Rattle.records.specs.Record.{kindOf, isKind, solidOf, cornerAt, strayVertex, notZero, recordFinding, recordCount, recordAt, asRecord};
+ghost use Rattle.solids.specs.Solids.{tet};
 use faults::Fault;
 use faults::Finding;
 use limits::CORNER_WIDTH;
@@ -75,6 +76,13 @@ pub fn record_at(table: &[u16], k: usize) -> &[u16]
     }
     let end = start + ELEMENT_WIDTH;
     &table[start..end]
+}
+
+// The record of a tetrahedron with these corners.
+pub fn tetrahedron_record(a: Vertex, b: Vertex, c: Vertex, d: Vertex) -> [u16; ELEMENT_WIDTH]
+    ensures { λ r. ⌜ r ≡ asRecord (tet (a .0) (b .0) (c .0) (d .0)) ⌝ }
+{
+    [4, a.0, b.0, c.0, d.0, 0, 0, 0, 0]
 }
 
 // A kind is 4, 5, 6 or 8.

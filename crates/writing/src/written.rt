@@ -2,6 +2,7 @@
 // finds no room is left out: what is promised of bytes is promised where all of them have room.
 use faults::Refusal;
 use faults::number_of;
+use limits::ELEMENT_WIDTH;
 use limits::LINE_END;
 use limits::MINUS;
 use limits::POINT;
@@ -196,7 +197,7 @@ pub fn vertex_line(line: &mut [u8], x: i32, y: i32, z: i32) -> usize
 }
 
 // TE, PY, PR or HX and the vertex numbers, with its byte 10.
-pub fn element_line(line: &mut [u8], element: [u16; 9]) -> usize
+pub fn element_line(line: &mut [u8], element: [u16; ELEMENT_WIDTH]) -> usize
     requires { ⌜ recordFinding vertexLimit element ≡ Clean ⌝ }
     ensures { λ r. ⌜ Put (now (line .entry)) 0 (closed (elementLine element)) (now (line .exit)) r ⌝ }
 {
