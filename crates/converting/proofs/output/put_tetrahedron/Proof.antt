@@ -55,9 +55,10 @@ same-length c = search needs
 returns : tie.Need-returns
 unfolding tetrahedronRecord
 returns c =
-    let s = c .before .before .before .before .before .before .before .before .before .before .before in
+    let at-write-element = c .before .before .before in
+    let s = at-write-element .before .before .before .before .before .before .before .before in
     tetrahedron-put (now (s .args .tetrahedra)) (s .args .k) (s .pre .0) (now (s .args .out)) refl (s .pre .1)
-    (c .before .before .before .write-element .ensures) (c .length-in .ensures)
+    (at-write-element .write-element .ensures) (c .length-in .ensures)
 
 pub put-tetrahedron-spec : {M : Type 1} → statement M
 put-tetrahedron-spec =
