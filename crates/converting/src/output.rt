@@ -62,11 +62,12 @@ fn put_tetrahedron(tetrahedra: &[u16], k: usize, out: &mut [u8]) -> usize
     ensures { λ r. ⌜ Put longestTetrahedron (tetrahedronText (now (tetrahedra .entry)) k) (now (out .entry)) r (now (out .exit)) ⌝ }
 {
     let at = TETRAHEDRON_WIDTH * k;
-    let a = Vertex(tetrahedra[at]);
-    let b = Vertex(tetrahedra[at + 1]);
-    let c = Vertex(tetrahedra[at + 2]);
-    let d = Vertex(tetrahedra[at + 3]);
-    length_in(write_element(tetrahedron_record(a, b, c, d), out))
+    let a = tetrahedra[at];
+    let b = tetrahedra[at + 1];
+    let c = tetrahedra[at + 2];
+    let d = tetrahedra[at + 3];
+    let record = tetrahedron_record(Vertex(a), Vertex(b), Vertex(c), Vertex(d));
+    length_in(write_element(record, out))
 }
 
 // The lines of the tetrahedra; their length.

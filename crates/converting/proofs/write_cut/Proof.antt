@@ -25,10 +25,10 @@ array-share-prefix-text : tie.Need-array-share-prefix-text
 array-share-prefix-text c = search needs
 
 slice-aggregate-store : tie.Need-slice-aggregate-store
-slice-aggregate-store c = let s =
+slice-aggregate-store c =
     let at-put-mesh = c .before .before .before in
     let start = at-put-mesh .before .before .before .before in
-    start in put-count (at-put-mesh .put-mesh .ensures) (now (s .args .output))
+    let s = start in put-count (at-put-mesh .put-mesh .ensures) (now (s .args .output))
 
 store-requires : tie.Need-store-requires
 store-requires c κs =
