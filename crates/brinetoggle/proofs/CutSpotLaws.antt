@@ -20,9 +20,9 @@ use Rattle.records.specs.Record.{usedOf, spareOf, kindOf, isKind, notZero, reco
 use Rattle.judging.specs.Judge.{faultIn, badRecord, badElement, misfit, judged}
 use Rattle.mesh.specs.Cutting.{cutOf}
 use Rattle.judging.proofs.Theorems.{accepted-tetrahedra}
-use Rattle.text.specs.File.{start, linesOf, fileVerdict}
-use Rattle.text.specs.Records.{elementRecords, recordsFrom, storedElements}
-use Rattle.text.proofs.AcceptedLaws.{file-fits}
+use Rattle.format.specs.File.{start, linesOf, fileVerdict}
+use Rattle.format.specs.Records.{elementRecords, recordsFrom, storedElements}
+use Rattle.format.proofs.AcceptedFileLaws.{file-fits}
 use Rattle.converting.specs.Conversion.{rooms, cutRoom, conversion}
 use Rattle.faults.specs.Spots.{subjectOf, tableSpot, spotOf, refuserOf}
 use Rattle.faults.specs.declared.Refuser.the-variants.{Judging}

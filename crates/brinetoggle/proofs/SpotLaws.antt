@@ -14,22 +14,22 @@ use Rattle.faults.specs.declared.Fault.the-variants as fault
 use Rattle.faults.specs.declared.Refusal.{Refusal}
 use Rattle.faults.specs.Refusals.{Verdict, accepted, refused, refuse}
 use Rattle.limits.specs.Limits as limits
-use Rattle.text.specs.Number.{cut, whole, decimals, millimetres, unsigned, coordinateOf}
-use Rattle.text.specs.Number as number
-use Rattle.text.specs.Line.{markOf, roleOf, wants, fieldsOf, judgeCoordinate, judgeCount, judgeVertex, fieldVerdict, first, fieldsVerdict, badMark, tooMany, badShape, noRoom, badCounts, given, judged, lineVerdict}
-use Rattle.text.specs.File.{start, linesOf, atEnd, onward, fileFrom, fileVerdict}
-use Rattle.text.specs.declared.terms.Role.{Role}
-use Rattle.text.specs.declared.terms.Role.the-variants.{VertexLine, ElementLine, EndLine, UnknownLine}
-use Rattle.text.specs.declared.terms.Spelt.{Spelt}
-use Rattle.text.specs.declared.terms.Spelt.the-variants.{Of, Not}
-use Rattle.text.specs.declared.terms.Coordinate.{Coordinate}
-use Rattle.text.specs.declared.terms.Coordinate.the-variants.{Thousandths, Wrong}
-use Rattle.text.specs.declared.terms.Judged.{Judged}
-use Rattle.text.specs.declared.terms.Judged.the-variants.{Passed, Failed}
-use Rattle.text.specs.declared.terms.ReaderState.{ReaderState}
-use Rattle.text.specs.declared.terms.Rooms.{Rooms}
-use Rattle.text.specs.declared.terms.Line.{Line}
-use Rattle.text.specs.declared.terms.Line.the-variants.{Next, No}
+use Rattle.format.specs.Number.{cut, whole, decimals, millimetres, unsigned, coordinateOf}
+use Rattle.format.specs.Number as number
+use Rattle.format.specs.Line.{markOf, roleOf, wants, fieldsOf, judgeCoordinate, judgeCount, judgeVertex, fieldVerdict, first, fieldsVerdict, badMark, tooMany, badShape, noRoom, badCounts, given, judged, lineVerdict}
+use Rattle.format.specs.File.{start, linesOf, atEnd, onward, fileFrom, fileVerdict}
+use Rattle.format.specs.declared.Role.{Role}
+use Rattle.format.specs.declared.Role.the-variants.{VertexLine, ElementLine, EndLine, UnknownLine}
+use Rattle.format.specs.declared.Spelt.{Spelt}
+use Rattle.format.specs.declared.Spelt.the-variants.{Of, Not}
+use Rattle.format.specs.declared.Coordinate.{Coordinate}
+use Rattle.format.specs.declared.Coordinate.the-variants.{Thousandths, Wrong}
+use Rattle.format.specs.declared.Judged.{Judged}
+use Rattle.format.specs.declared.Judged.the-variants.{Passed, Failed}
+use Rattle.format.specs.declared.ReaderState.{ReaderState}
+use Rattle.format.specs.declared.Rooms.{Rooms}
+use Rattle.format.specs.declared.Line.{Line}
+use Rattle.format.specs.declared.Line.the-variants.{Next, No}
 use Rattle.faults.specs.Spots.{spotOf, refuserOf}
 use Rattle.faults.specs.declared.Refuser.the-variants.{Reading}
 use Rattle.faults.specs.declared.Spot.the-variants as spot

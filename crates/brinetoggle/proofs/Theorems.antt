@@ -18,8 +18,8 @@ use Rattle.limits.specs.Limits.{fileLimit}
 use Rattle.faults.specs.declared.Fault.the-variants as fault
 use Rattle.faults.specs.declared.Refusal.{Refusal}
 use Rattle.faults.specs.Refusals.{accepted, refused, refuse}
-use Rattle.text.specs.File.{fileVerdict}
-use Rattle.text.specs.declared.terms.Rooms.{Rooms}
+use Rattle.format.specs.File.{fileVerdict}
+use Rattle.format.specs.declared.Rooms.{Rooms}
 use Rattle.converting.specs.Conversion.{rooms, conversion, programOutput}
 use Rattle.brinetoggle.specs.Reading.{inputRoom}
 use Rattle.faults.specs.Spots.{subjectOf, tableSpot, spotOf, refuserOf}

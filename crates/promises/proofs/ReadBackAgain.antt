@@ -23,8 +23,9 @@ use Rattle.faults.proofs.Theorems.{answer-tells-verdict}
 use Rattle.records.specs.Record.{kindOf, usedOf, spareOf, isKind, strayVertex, notZero, recordFinding, recordAt}
 use Rattle.records.specs.WholeRecords.{isNumber}
 use Rattle.records.proofs.RecordLaws.{faultless-clean, finding-clean, finding-repeat, stays}
-use Rattle.text.specs.File.{start, linesOf, fileVerdict}
-use Rattle.text.specs.Records.{vertexRecords, elementRecords, recordsFrom, verdictOf, roomsOf, ReadDone}
+use Rattle.format.specs.File.{start, linesOf, fileVerdict}
+use Rattle.format.specs.Records.{vertexRecords, elementRecords, recordsFrom}
+use Rattle.text.specs.Reading.{verdictOf, roomsOf, ReadDone}
 use Rattle.text.specs.declared.ReadAnswer.the-variants as read
 use Rattle.text.specs.declared.ReadCounts.{ReadCounts}
 use Rattle.text.proofs.Theorems.{Counted, accepted-stores, accepted-counts}

@@ -6,14 +6,14 @@ use crate::mark::mark_of;
 use crate::mark::role_of;
 use crate::mark::tip_first;
 use crate::mark::wants;
-use crate::number::thousandths;
-use crate::scan::find;
-use crate::scan::from;
-use crate::scan::past;
-use crate::scan::until;
-use crate::terms::Mark;
-use crate::terms::ReaderState;
-use crate::terms::Role;
+use numbers::thousandths;
+use numbers::scan::find;
+use numbers::scan::from;
+use numbers::scan::past;
+use numbers::scan::until;
+use format::Mark;
+use format::ReaderState;
+use format::Role;
 use limits::ELEMENT_NUMBERS;
 use limits::ELEMENT_WIDTH;
 use limits::FIELDS_AT;
@@ -27,8 +27,8 @@ ghost use lib.Seq.{sets};
 ghost use Rattle.limits.specs.Limits.{space, vertexLimit, elementLimit, vertexWidth, elementWidth};
 ghost use Rattle.laws.specs.Lent.{laid};
 ghost use Rattle.laws.specs.Pieces.{split};
-ghost use Rattle.text.specs.Records.{vertexRecord, elementRecord, vertexRecords, elementRecords};
-ghost use Rattle.text.specs.Loops.{Few, StoredLine, Copying, countsIn};
+ghost use Rattle.format.specs.Records.{vertexRecord, elementRecord, vertexRecords, elementRecords};
+ghost use Rattle.text.specs.ReadingLoops.{Few, StoredLine, Copying, countsIn};
 
 // A coordinate at place i of a table, which is left alone where it has no such place.
 fn put_coordinate(table: &mut [i32], i: usize, v: i32)

@@ -11,7 +11,7 @@ use limits::ZERO;
 use records::corner;
 use records::kind_of;
 use solids::Place;
-use text::terms::Mark;
+use format::Mark;
 ghost use mathlib.Core.Path.{_≡_};
 ghost use mathlib.Core.List.{_∷_, []};
 ghost use Prim.Native.Nat.{_%_, _<_};
@@ -19,7 +19,7 @@ ghost use lib.IntN.{natAbs};
 ghost use Rattle.limits.specs.Limits.{space, vertexLimit};
 ghost use Rattle.faults.specs.declared.Finding.the-variants.{Clean};
 ghost use Rattle.records.specs.Record.{recordFinding};
-ghost use Rattle.text.specs.Line.{markBytes};
+ghost use Rattle.format.specs.Line.{markBytes};
 ghost use Rattle.writing.specs.Written.{digit, digitsOf, decimal, millimetresOf, coordinateText, closed, markOfKind, vertexLine, elementLine, endLine, refusalLine};
 ghost use Rattle.writing.specs.WriteLoops.{Put};
 

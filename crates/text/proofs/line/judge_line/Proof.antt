@@ -1,8 +1,8 @@
 -- `text::line::judge_line` judges a line by the page's tests, in their order. Assumes nothing.
 use mathlib.Core.Path.{sym, ap, _∙_}
-use Rattle.text.specs.Line.{fieldsOf}
-use Rattle.text.specs.declared.terms.Line.the-variants.{Next}
-use Rattle.text.proofs.LineLaws.{line-late, line-mark, line-many, line-shape, line-field, line-room, line-end, line-next}
+use Rattle.format.specs.Line.{fieldsOf}
+use Rattle.format.specs.declared.Line.the-variants.{Next}
+use Rattle.format.proofs.LineLaws.{line-late, line-mark, line-many, line-shape, line-field, line-room, line-end, line-next}
 use borrow.Author.Needs.{needs}
 use Rattle.text.proofs.line.judge_line.Statement.{statement}
 use Rattle.text.proofs.line.judge_line.Tie as tie

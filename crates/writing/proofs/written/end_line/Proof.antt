@@ -1,8 +1,8 @@
 -- `writing::written::end_line` puts the line EN. Assumes nothing.
 use mathlib.Core.List.{List, [], _∷_}
 use Prim.Native.Nat.{ℕ}
-use Rattle.text.specs.Line.{markBytes}
-use Rattle.text.specs.declared.terms.Mark.the-variants.{En}
+use Rattle.format.specs.Line.{markBytes}
+use Rattle.format.specs.declared.Mark.the-variants.{En}
 use Rattle.writing.specs.Written.{decimal, endLine}
 use Rattle.writing.proofs.PutLaws.{put-two}
 use Rattle.writing.proofs.WrittenLaws.{line-start, line-field}

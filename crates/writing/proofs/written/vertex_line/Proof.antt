@@ -2,8 +2,8 @@
 use mathlib.Core.List.{List, [], _∷_}
 use Prim.Native.Nat.{ℕ}
 use mir.Facts.{toZ-ofZ}
-use Rattle.text.specs.Line.{markBytes}
-use Rattle.text.specs.declared.terms.Mark.the-variants.{Vx}
+use Rattle.format.specs.Line.{markBytes}
+use Rattle.format.specs.declared.Mark.the-variants.{Vx}
 use Rattle.writing.specs.Written.{coordinateText, vertexLine}
 use Rattle.writing.proofs.PutLaws.{put-two}
 use Rattle.writing.proofs.WrittenLaws.{line-start, line-field}
