@@ -28,7 +28,8 @@ use Rattle.format.specs.Records.{vertexRecords, elementRecords, recordsFrom}
 use Rattle.text.specs.Reading.{verdictOf, roomsOf, ReadDone}
 use Rattle.text.specs.declared.ReadAnswer.the-variants as read
 use Rattle.text.specs.declared.ReadCounts.{ReadCounts}
-use Rattle.text.proofs.Theorems.{Counted, accepted-stores, accepted-counts}
+use Rattle.format.proofs.Theorems.{Counted}
+use Rattle.text.proofs.Theorems.{accepted-stores, accepted-counts}
 use Rattle.promises.proofs.ReadBackFile.{Ranged, vertexAt, Sound}
 use Rattle.promises.proofs.ReadBackStored.{Stored, StoredRecords, file-stored}
 
@@ -81,7 +82,7 @@ module _
     records : StoredRecords (roomsOf vertices elements) (counts .vertices) (counts .elements) file
     records = file-stored (roomsOf vertices elements) (counts .vertices) (counts .elements) file read-accepted
 
-    counted : Counted file vertices elements counts
+    counted : Counted (roomsOf vertices elements) file (counts .vertices) (counts .elements)
     counted = accepted-counts file vertices elements counts vertices′ elements′ done
 
     abbrev storedV : List ℤ

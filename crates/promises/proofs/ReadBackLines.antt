@@ -308,7 +308,7 @@ module _ (rooms : Rooms) (v e : ℕ) (fewVertices : v ≤ vertexLimit) (few : e 
           read-as (rw (mark .role) at (line-read rooms (reading v e) m (decimal k) (map decimal l) n)) refl
           (rw (its-mark rooms (reading v e) m (decimal k) (map decimal l) n, its-fields rooms (reading v e) m (decimal k) (map decimal l) n, mark .counted, mark .plain)
           (ap (λ (q : List ℕ). suc (length l) ∷ map (λ j. getD q j 0) (cornerFields false)) (numbers-read v fewVertices cornerWidth k l zs wide inside zeros)
-          ∙ ap (λ (q : List ℕ). suc (length l) ∷ q) (eight (k ∷ (l ++ zs)) (rw (length-append l zs) (omega arith)))))
+          ∙ ap (λ (q : List ℕ). suc (length l) ∷ q) (corners-plain (k ∷ (l ++ zs)) (rw (length-append l zs) (omega arith)))))
 
   no-corners : (kind : ℕ) → 0 ≡ kind → T (isKind kind) → ⊥
   no-corners kind q h = go (which-kind kind h)

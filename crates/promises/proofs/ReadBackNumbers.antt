@@ -14,7 +14,7 @@ use Rattle.laws.specs.Pieces.{split}
 use Rattle.laws.proofs.PieceLaws.{Free, split-joined, split-free}
 use Rattle.volume.specs.Volume.{inRange}
 use Rattle.volume.proofs.RangeLaws.{in-range-within}
-use Rattle.format.specs.Number.{appended, spelt, whole, decimals, signed, millimetres, unsigned, coordinateOf, thousandthsOf, numberOf, valueOf}
+use Rattle.format.specs.Number.{digitOf, appended, spelt, whole, decimals, signed, millimetres, unsigned, coordinateOf, thousandthsOf, numberOf, valueOf}
 use Rattle.format.specs.declared.Spelt.the-variants.{Of}
 use Rattle.format.specs.declared.Coordinate.the-variants.{Thousandths}
 use Rattle.format.proofs.NumberLaws.{spelt-append}
@@ -64,7 +64,7 @@ decimal-some k = digits-some k k
 -- ---- what digits spell
 
 appended-digit : (n d : ℕ) → d < 10 → appended n (digit d) ≡ Of (n * 10 + d)
-unfolding appended
+unfolding appended digitOf
 appended-digit n d h =
     let e : digit d - digit0 ≡ d = omega arith in
     rw (le-leb digit0 (digit d) (omega arith), le-leb (digit d) digit9 (omega arith), e)
