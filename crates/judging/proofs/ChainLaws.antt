@@ -26,7 +26,7 @@ use Rattle.records.proofs.RecordLaws.{used-length, kind-small, record-parts, cl
 use Rattle.judging.specs.Judge.{badRecord, badElement, pairFits, misfit}
 use Rattle.judging.proofs.JudgeLaws.{record-clean}
 use Rattle.judging.specs.JudgeLoops.{Recorded}
-use Rattle.judging.specs.FitLoops.{Pair, Numbered, holds, latest, Filed, Seen, Grown, Meeting, Met}
+use Rattle.judging.specs.ChainLoops.{Numbered, holds, latest, Filed, Seen, Grown, Meeting, Met}
 
 -- ---- the greatest number below a bound
 
@@ -98,10 +98,6 @@ kind-holds t v j = let e : (elementWidth * j) % elementWidth ≡ 0 = omega arith
 
 pub whole-front : (t : List ℕ) (n m : ℕ) → WholeTable t n → m ≤ n → WholeTable t m
 whole-front t n m w h = record { few = omega (arith, w .few); long = omega (arith, w .long); whole = λ k l. w .whole k (omega arith) }
-
--- the two records of a pair
-pub pair-whole : (t : List ℕ) (i j : ℕ) {a b : List ℕ} → WholeTable t (j + 1) → i < j → a ≡ recordAt t i → b ≡ recordAt t j → Pair a b
-pair-whole t i j w h p q = record { first = rw p (w .whole i (omega arith)); second = rw q (w .whole j (omega arith)) }
 
 -- the verdict of two records is that of the pair
 pub pair-verdict : (t : List ℕ) (i j : ℕ) {a b : List ℕ} {r : Bool} → a ≡ recordAt t i → b ≡ recordAt t j → r ≡ fits (elementOf a) (elementOf b) → r ≡ pairFits t i j

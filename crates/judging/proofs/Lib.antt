@@ -1,8 +1,6 @@
 -- What is proved of judging a table.
-pub mod FitFaceLaws
 pub mod FittingLaws
 pub mod ChainLaws
-pub mod EdgeLaws
 pub mod JudgeLaws
 pub mod VerdictLaws
 pub mod AcceptedLaws

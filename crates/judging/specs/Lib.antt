@@ -2,4 +2,4 @@
 pub mod Judge
 pub mod JudgeLoops
 pub mod Acceptance
-pub mod FitLoops
+pub mod ChainLoops

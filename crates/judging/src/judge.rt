@@ -3,12 +3,11 @@ ghost use mathlib.Core.Path.{_≡_};
 ghost use Prim.Native.Nat.{_<_, pred};
 ghost use Rattle.faults.specs.Refusals.{refuse, refusePair};
 ghost use Rattle.records.specs.Record.{recordFinding, recordAt};
-ghost use Rattle.records.specs.WholeRecords.{WholeTable};
 ghost use Rattle.judging.specs.Judge.{badRecord, isFault, faultIn, misfit};
-ghost use Rattle.judging.specs.FitLoops.{Numbered};
+ghost use Rattle.judging.specs.ChainLoops.{Numbered};
 ghost use Rattle.judging.specs.JudgeLoops.{answerFrom, pairsJudged, RecordsJudging, Judging};
 use crate::JudgeAnswer;
-use crate::fit;
+use crate::misfits;
 use faults::Fault;
 use faults::Finding;
 use faults::Refusal;
@@ -66,10 +65,10 @@ fn record_refusal(table: &[u16], limit: usize, k: usize) -> Refusal
 
 // The refusal of the element with the number j, from 1, and its lowest misfit.
 fn pair_refusal(table: &[u16], j: usize) -> Refusal
-    requires { ⌜ (0 < j) × WholeTable (now table) j ⌝ }
+    requires { ⌜ 0 < j ⌝ }
     ensures { λ r. ⌜ r ≡ refusePair j (misfit (now (table .entry)) (pred j)) ⌝ }
 {
-    let i = fit::misfit_of(table, j - 1);
+    let i = misfits::misfit_of(table, j - 1);
     Refusal {
         fault: Fault::Join,
         place: j,
@@ -113,7 +112,7 @@ fn judge_pairs(elements: &[u16], element_count: usize) -> JudgeAnswer
     requires { ⌜ Numbered (now elements) «element_count» ⌝ }
     ensures { λ r. ⌜ r ≡ answerFrom (pairsJudged (now (elements .entry)) «element_count») ⌝ }
 {
-    let j = fit::bad_element(elements, element_count);
+    let j = misfits::bad_element(elements, element_count);
     if 0 < j {
         return JudgeAnswer::Refused(pair_refusal(elements, j));
     }

@@ -2,8 +2,9 @@
 ghost use Rattle.judging.specs.Judge.{JudgeDone};
 use faults::Refusal;
 
-mod fit;
+mod chains;
 mod judge;
+mod misfits;
 
 // What judging a table answers.
 pub enum JudgeAnswer {

@@ -5,7 +5,6 @@ use borrow.Author.Needs.{needs}
 use Rattle.faults.specs.Refusals.{Verdict, refused}
 use Rattle.judging.specs.declared.JudgeAnswer.the-variants.{Refused}
 use Rattle.judging.specs.JudgeLoops.{answerFrom}
-use Rattle.judging.proofs.ChainLaws.{whole-front, bad-high}
 use Rattle.judging.proofs.VerdictLaws.{none, bad-pair, all-fit}
 use Rattle.judging.proofs.judge.judge_pairs.Statement.{statement}
 use Rattle.judging.proofs.judge.judge_pairs.Tie as tie
@@ -14,10 +13,7 @@ bad-element-requires : tie.Need-bad-element-requires
 bad-element-requires c κs = search needs
 
 pair-refusal-requires : tie.Need-pair-refusal-requires
-pair-refusal-requires c κs =
-    let a = c .before .before .before .args in
-    let b = c .before .bad-element in
-    (c .if1 .taken, whole-front (a .elements .now) (a .element-count) (b .result) (c .before .before .before .pre .table) (rw (b .ensures) (bad-high (a .elements .now) (a .element-count))))
+pair-refusal-requires c κs = search needs
 
 returns : tie.Need-returns
 returns c =

@@ -1,9 +1,6 @@
 -- `judging::judge::pair_refusal` meets its contract: the element with its lowest misfit.
 -- Assumes nothing.
 use Rattle.judging.proofs.VerdictLaws.{pair-refused}
-use Prim.Native.Nat.{_+_, _-_}
-use mathlib.Core.Path.{_≡_}
-use native.Mathlib.Omega.{arith}
 use borrow.Author.Needs.{needs}
 use Rattle.judging.proofs.judge.pair_refusal.Statement.{statement}
 use Rattle.judging.proofs.judge.pair_refusal.Tie as tie
@@ -12,10 +9,7 @@ sub-misfit-of : tie.Need-sub-misfit-of
 sub-misfit-of c = search needs
 
 misfit-of-requires : tie.Need-misfit-of-requires
-misfit-of-requires c κs =
-    let a = c .before .args in
-    let e : a .j - 1 + 1 ≡ a .j = omega (arith, c .before .pre .0) in
-    rw e (c .before .pre .1)
+misfit-of-requires c κs = search needs
 
 returns : tie.Need-returns
 returns c =
