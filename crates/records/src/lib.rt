@@ -1,7 +1,8 @@
 // The element record: its fields, and how it is judged. The definitions stand in specs/, what is proved of them in proofs/Theorems.antt.
 ghost use mathlib.Core.Path.{_≡_};
+ghost use lib.ListN.{take, drop};
 ghost use Rattle.laws.specs.Words.{some, among, distinct};
-ghost use Rattle.records.specs.Record.{kindOf, isKind, solidOf, cornerAt, strayVertex, notZero, recordFinding, recordCount, recordAt, asRecord};
+ghost use Rattle.records.specs.Record.{kindOf, usedOf, isKind, solidOf, cornerAt, strayVertex, notZero, recordFinding, recordCount, recordAt, asRecord};
 ghost use Rattle.solids.specs.Solids.{tet};
 use faults::Fault;
 use faults::Finding;
@@ -53,6 +54,34 @@ pub fn corner(element: &[u16], place: Place) -> Vertex
         return Vertex(0);
     }
     Vertex(element[at])
+}
+
+// The first n numbers, or all where they are fewer.
+fn front(numbers: &[u16], n: usize) -> &[u16]
+    ensures { λ r. ⌜ now r ≡ take n (now (numbers .entry)) ⌝ }
+{
+    if numbers.len() <= n {
+        return numbers;
+    }
+    &numbers[..n]
+}
+
+// The numbers behind the first n, or none where they are fewer.
+fn behind(numbers: &[u16], n: usize) -> &[u16]
+    ensures { λ r. ⌜ now r ≡ drop n (now (numbers .entry)) ⌝ }
+{
+    if numbers.len() <= n {
+        return &numbers[..0];
+    }
+    &numbers[n..]
+}
+
+// The vertex numbers of a record's corners.
+pub fn corners_of(element: &[u16]) -> &[u16]
+    ensures { λ r. ⌜ now r ≡ usedOf (now (element .entry)) ⌝ }
+{
+    let kind = kind_of(element) as usize;
+    front(front(behind(element, 1), CORNER_WIDTH), kind)
 }
 
 // How many whole records a table holds.

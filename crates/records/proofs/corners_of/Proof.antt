@@ -1,9 +1,9 @@
--- `faces::corners_of` meets its contract: the corners are the first numbers behind the kind, as many as the kind says, at most eight.
+-- `records::corners_of` meets its contract: the corners are the first numbers behind the kind, as many as the kind says, at most eight.
 -- Assumes nothing.
 use borrow.Author.Needs.{needs}
 use Rattle.records.specs.Record.{numbersOf, usedOf}
-use Rattle.faces.proofs.corners_of.Statement.{statement}
-use Rattle.faces.proofs.corners_of.Tie as tie
+use Rattle.records.proofs.corners_of.Statement.{statement}
+use Rattle.records.proofs.corners_of.Tie as tie
 
 kind-of-requires : tie.Need-kind-of-requires
 kind-of-requires c κs = search needs

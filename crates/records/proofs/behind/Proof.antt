@@ -1,12 +1,12 @@
--- `faces::behind` meets its contract: where the numbers are no more than n, none stands behind the first n.
+-- `records::behind` meets its contract: where the numbers are no more than n, none stands behind the first n.
 -- Assumes nothing.
 use mathlib.Core.Path.{sym}
 use borrow.Author.Needs.{needs}
 use denote.Ref.{now}
 use lib.ListN.{drop-of-length-le}
 use Rattle.laws.proofs.WordLaws.{part-from}
-use Rattle.faces.proofs.behind.Statement.{statement}
-use Rattle.faces.proofs.behind.Tie as tie
+use Rattle.records.proofs.behind.Statement.{statement}
+use Rattle.records.proofs.behind.Tie as tie
 
 slice-aggregate-result : tie.Need-slice-aggregate-result
 slice-aggregate-result c = search needs

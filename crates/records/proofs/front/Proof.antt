@@ -1,12 +1,12 @@
--- `faces::front` meets its contract: where the numbers are no more than n, they are the first n.
+-- `records::front` meets its contract: where the numbers are no more than n, they are the first n.
 -- Assumes nothing.
 use mathlib.Core.Path.{sym}
 use borrow.Author.Needs.{needs}
 use denote.Ref.{now}
 use lib.Seq.{take-all, length-take-le}
 use native.Mathlib.Nat.{le-of-lt}
-use Rattle.faces.proofs.front.Statement.{statement}
-use Rattle.faces.proofs.front.Tie as tie
+use Rattle.records.proofs.front.Statement.{statement}
+use Rattle.records.proofs.front.Tie as tie
 
 returns : tie.Need-returns
 returns c = sym (take-all (c .before .args .n) (now (c .before .args .numbers)) (c .if1 .taken))
