@@ -23,6 +23,7 @@ use Rattle.format.specs.declared.Role.{Role}
 use Rattle.format.specs.declared.Role.the-variants.{VertexLine, ElementLine, EndLine, UnknownLine}
 use Rattle.format.specs.declared.Spelt.{Spelt}
 use Rattle.format.specs.declared.Spelt.the-variants.{Of, Not}
+use Rattle.format.specs.declared.Coordinate.{Coordinate}
 use Rattle.format.specs.declared.Coordinate.the-variants.{Wrong}
 use Rattle.format.specs.declared.Judged.{Judged}
 use Rattle.format.specs.declared.Judged.the-variants.{Passed, Failed}
@@ -99,18 +100,14 @@ number-free n l = by (eqb (length l) 0) (eqb (getD l 0 0) digit0) (eqb (length l
     by false false c true p q h = spelt-free 0 n l h
     by false false c false p q h = no-number n h
 
+wrong-where : (a : Bool) (f : Fault) (c : Coordinate) → judgeCoordinate (cond a (Wrong f) c) ≡ Passed → a ≡ false
+wrong-where true f c h = no-pass f h
+wrong-where false f c h = refl
+
 -- a coordinate that passes holds no comma
 coordinate-free : (l : List ℕ) → judgeCoordinate (coordinateOf l) ≡ Passed → Free comma l
 unfolding coordinateOf
-coordinate-free l = by (cut (split comma l)) refl
-  where
-    by : (a : Bool) → cut (split comma l) ≡ a
-        → judgeCoordinate (cond a (Wrong fault.Comma)
-        (cond (eqb (getD l 0 0) minus) (unsigned true (split point (drop 1 l))) (unsigned false (split point l))))
-        ≡ Passed
-        → Free comma l
-    by true e h = no-pass fault.Comma h
-    by false e h = uncut-free comma l e
+coordinate-free l h = uncut-free comma l (wrong-where (cut (split comma l)) _ _ h)
 
 count-free : (l : List ℕ) (a : Spelt) → numberOf l ≡ a → judgeCount a ≡ Passed → Free comma l
 count-free l (Of n) e h = number-free n l e

@@ -150,10 +150,10 @@ module _
 
     pub accepted-holds : (file : List ℕ) → fileVerdict rooms file ≡ accepted cs → (length file ≤ fileLimit) × P start (linesOf file)
     unfolding fileVerdict
-    accepted-holds file = by (ltb fileLimit (length file)) refl
+    accepted-holds file = by (ltb fileLimit (length file)) _ refl
       where
-        by : (b : Bool) → ltb fileLimit (length file) ≡ b
-            → cond b (refused (refuse fault.Long 0)) (fileFrom rooms start 1 (linesOf file)) ≡ accepted cs
+        by : (b : Bool) (n : ℕ) → ltb fileLimit (length file) ≡ b
+            → cond b (refused (refuse fault.Long 0)) (fileFrom rooms start n (linesOf file)) ≡ accepted cs
             → (length file ≤ fileLimit) × P start (linesOf file)
-        by true q e = no-accept (refuse fault.Long 0) cs e
-        by false q e = (ltb-false fileLimit (length file) q, lines-hold (linesOf file) start 1 e)
+        by true n q e = no-accept (refuse fault.Long 0) cs e
+        by false n q e = (ltb-false fileLimit (length file) q, lines-hold (linesOf file) start n e)

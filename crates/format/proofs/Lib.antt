@@ -1,4 +1,5 @@
 -- What is proved of the text file as it is defined.
+pub mod FileSampleLaws
 pub mod NumberLaws
 pub mod MarkLaws
 pub mod FieldLaws

@@ -2,7 +2,7 @@
 -- Assumes nothing.
 use Prim.Native.Nat.{ℕ}
 use mathlib.Core.Path.{_≡_}
-use mathlib.Core.Bool.{true, false}
+use mathlib.Core.Bool.{Bool, true, false, cond}
 use mathlib.Core.List.{List}
 use Rattle.faults.specs.declared.Fault.{Fault}
 use Rattle.faults.specs.declared.Fault.the-variants as fault
@@ -14,42 +14,89 @@ use Rattle.format.specs.declared.ReaderState.{ReaderState}
 use Rattle.format.specs.declared.Rooms.{Rooms}
 use Rattle.format.specs.declared.Line.the-variants.{Next, No}
 
-module _ (rooms : Rooms) (state : ReaderState) (l : List ℕ) where
-  -- anything after EN
-  pub line-late : state .ended ≡ true → No fault.Mark ≡ lineVerdict rooms state true l
+-- anything after EN
+pub line-late : (rooms : Rooms) (state : ReaderState) (l : List ℕ) → state .ended ≡ true → No fault.Mark ≡ lineVerdict rooms state true l
+unfolding lineVerdict
+line-late rooms state l h = rw h
+
+-- ---- the tests that a line has passed, one after the other
+
+module _ (rooms : Rooms) (state : ReaderState) (l : List ℕ) (mark : Mark) (role : Role) where
+  -- it does not stand after EN
+  pub record Going : Type 0 where
+    pub marked : mark ≡ markOf l
+    pub said : role ≡ roleOf mark
+    pub going : state .ended ≡ false
+
+  pub record Known : Type 0 where
+    pub earlier : Going
+    pub known : badMark state role ≡ false
+
+  pub record Few : Type 0 where
+    pub earlier : Known
+    pub few : tooMany state role ≡ false
+
+  pub record Shaped : Type 0 where
+    pub earlier : Few
+    pub shaped : badShape (wants mark) l ≡ false
+
+  pub record GoodFields : Type 0 where
+    pub earlier : Shaped
+    pub passed : fieldsVerdict state role (fieldsOf l) ≡ Passed
+
+  pub record Roomy : Type 0 where
+    pub earlier : GoodFields
+    pub room : noRoom rooms state role ≡ false
+
+-- ---- the first that it fails, or none
+
+module _ {rooms : Rooms} {state : ReaderState} {l : List ℕ} {mark : Mark} {role : Role} where
+  pub line-mark : Going rooms state l mark role → badMark state role ≡ true → No fault.Mark ≡ lineVerdict rooms state true l
   unfolding lineVerdict
-  line-late h = rw h
+  line-mark g h = rw (← g .marked, ← g .said, h, g .going)
 
-  module _ (mark : Mark) (role : Role) (m : mark ≡ markOf l) (r : role ≡ roleOf mark) (going : state .ended ≡ false) where
-    pub line-mark : badMark state role ≡ true → No fault.Mark ≡ lineVerdict rooms state true l
-    unfolding lineVerdict
-    line-mark h = rw (← m, ← r, h, going)
+  pub line-many : Known rooms state l mark role → tooMany state role ≡ true → No fault.Many ≡ lineVerdict rooms state true l
+  unfolding lineVerdict
+  line-many k h = let g = k .earlier in rw (← g .marked, ← g .said, k .known, h, g .going)
 
-    module _ (known : badMark state role ≡ false) where
-      pub line-many : tooMany state role ≡ true → No fault.Many ≡ lineVerdict rooms state true l
-      unfolding lineVerdict
-      line-many h = rw (← m, ← r, known, h, going)
+  pub line-shape : Few rooms state l mark role → badShape (wants mark) l ≡ true → No fault.Shape ≡ lineVerdict rooms state true l
+  unfolding lineVerdict
+  line-shape w h =
+      let k = w .earlier in
+      let g = k .earlier in
+      rw (← g .marked, ← g .said, k .known, w .few, h, g .going)
 
-      module _ (few : tooMany state role ≡ false) where
-        pub line-shape : badShape (wants mark) l ≡ true → No fault.Shape ≡ lineVerdict rooms state true l
-        unfolding lineVerdict
-        line-shape h = rw (← m, ← r, known, few, h, going)
+  pub line-field : Shaped rooms state l mark role → (f : Fault) → fieldsVerdict state role (fieldsOf l) ≡ Failed f → No f ≡ lineVerdict rooms state true l
+  unfolding lineVerdict
+  line-field s f h =
+      let w = s .earlier in
+      let k = w .earlier in
+      let g = k .earlier in
+      rw (← g .marked, ← g .said, k .known, w .few, s .shaped, h, g .going)
 
-        module _ (shaped : badShape (wants mark) l ≡ false) where
-          pub line-field : (f : Fault) → fieldsVerdict state role (fieldsOf l) ≡ Failed f → No f ≡ lineVerdict rooms state true l
-          unfolding lineVerdict
-          line-field f h = rw (← m, ← r, known, few, shaped, h, going)
+  pub line-room : GoodFields rooms state l mark role → noRoom rooms state role ≡ true → No fault.Room ≡ lineVerdict rooms state true l
+  unfolding lineVerdict
+  line-room p h =
+      let s = p .earlier in
+      let w = s .earlier in
+      let k = w .earlier in
+      let g = k .earlier in
+      rw (← g .marked, ← g .said, k .known, w .few, s .shaped, p .passed, h, g .going)
 
-          module _ (passed : fieldsVerdict state role (fieldsOf l) ≡ Passed) where
-            pub line-room : noRoom rooms state role ≡ true → No fault.Room ≡ lineVerdict rooms state true l
-            unfolding lineVerdict
-            line-room h = rw (← m, ← r, known, few, shaped, passed, h, going)
+  -- the EN counts are the last test
+  last-test : Roomy rooms state l mark role → (b : Bool) → badCounts state role (fieldsOf l) ≡ b
+      → cond b (No fault.End) (Next (afterRole state role)) ≡ lineVerdict rooms state true l
+  unfolding lineVerdict after
+  last-test r b h =
+      let p = r .earlier in
+      let s = p .earlier in
+      let w = s .earlier in
+      let k = w .earlier in
+      let g = k .earlier in
+      rw (← g .marked, ← g .said, k .known, w .few, s .shaped, p .passed, r .room, h, g .going)
 
-            module _ (room : noRoom rooms state role ≡ false) where
-              pub line-end : badCounts state role (fieldsOf l) ≡ true → No fault.End ≡ lineVerdict rooms state true l
-              unfolding lineVerdict
-              line-end h = rw (← m, ← r, known, few, shaped, passed, room, h, going)
+  pub line-end : Roomy rooms state l mark role → badCounts state role (fieldsOf l) ≡ true → No fault.End ≡ lineVerdict rooms state true l
+  line-end r h = last-test r true h
 
-              pub line-next : badCounts state role (fieldsOf l) ≡ false → Next (afterRole state role) ≡ lineVerdict rooms state true l
-              unfolding lineVerdict after
-              line-next h = rw (← m, ← r, known, few, shaped, passed, room, h, going)
+  pub line-next : Roomy rooms state l mark role → badCounts state role (fieldsOf l) ≡ false → Next (afterRole state role) ≡ lineVerdict rooms state true l
+  line-next r h = last-test r false h

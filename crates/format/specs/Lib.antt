@@ -4,3 +4,4 @@ pub mod Line
 pub mod File
 pub mod Records
 pub mod GoodFields
+pub mod Samples

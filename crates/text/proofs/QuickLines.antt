@@ -195,8 +195,17 @@ module _ (t : List ℕ) (rooms : Rooms) (state : ReaderState) (mark : Mark) (rol
 
       its-verdict : lineVerdict rooms state true (lineOf t fs f) ≡ Next (afterRole state role)
       its-verdict =
-          sym (line-next rooms state (lineOf t fs f) mark role its-mark (a .said) (a .going) (a .known) (a .few) its-shape
-          (ap (fieldsVerdict state role) its-fields ∙ pieces-pass state role fs f each good) (a .room) (counts (fieldsOf (lineOf t fs f))))
+          sym (line-next (record {
+            earlier = record {
+              earlier = record {
+                earlier = record { earlier = record { earlier = record { marked = its-mark; said = a .said; going = a .going }; known = a .known }; few = a .few };
+                shaped = its-shape;
+              };
+              passed = ap (fieldsVerdict state role) its-fields ∙ pieces-pass state role fs f each good;
+            };
+            room = a .room;
+          })
+          (counts (fieldsOf (lineOf t fs f))))
 
 pub allowed : (t : List ℕ) (rooms : Rooms) (state : ReaderState) (mark : Mark) (role r : Role) → r ≡ role → badMark state r ≡ false → tooMany state r ≡ false
     → noRoom rooms state r ≡ false → state .ended ≡ false → getD t markWidth 0 ≡ space → mark ≡ markOf t → r ≡ roleOf mark → Allowed t rooms state mark role
