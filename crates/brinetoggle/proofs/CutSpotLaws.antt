@@ -17,7 +17,9 @@ use Rattle.faults.specs.Refusals.{Verdict, accepted, refused, refuse, refusePai
 use Rattle.solids.specs.Solids.{Element}
 use Rattle.solids.specs.Cut.{cutMesh}
 use Rattle.records.specs.Record.{usedOf, spareOf, kindOf, isKind, notZero, recordFinding, recordAt, firstElements}
-use Rattle.judging.specs.Judge.{faultIn, badRecord, badElement, misfit, judged}
+use Rattle.tables.specs.JudgedRecords.{faultIn, badRecord}
+use Rattle.judging.specs.Judge.{badElement, misfit, judged}
+use Rattle.judging.proofs.TableVerdictLaws.{judged-by-tests}
 use Rattle.mesh.specs.Cutting.{cutOf}
 use Rattle.judging.proofs.Theorems.{accepted-tetrahedra}
 use Rattle.format.specs.File.{start, linesOf, fileVerdict}
@@ -61,9 +63,8 @@ finding-late v r h = rw (h .none) (go (not (eqb (length r) elementWidth && isKin
 
 module _ (v n : ℕ) (t : List ℕ) (vertices : v ≤ vertexLimit) (elements : n ≤ elementLimit) (long : elementWidth * n ≤ length t) (sound : (k : ℕ) → NoStray v (recordAt t k)) where
   judged-late : AtElements (judged v n t)
-  unfolding judged
   judged-late =
-      rw (le-ltb vertexLimit v vertices, le-ltb elementLimit n elements, le-ltb (length t) (elementWidth * n) long)
+      rw (judged-by-tests v n t, le-ltb vertexLimit v vertices, le-ltb elementLimit n elements, le-ltb (length t) (elementWidth * n) long)
       (at-if (ltb 0 (badRecord v t n)) (refuse (faultIn (recordFinding v (recordAt t (pred (badRecord v t n))))) (badRecord v t n)) _
       (λ e. record { fault = finding-late v (recordAt t (pred (badRecord v t n))) (sound (pred (badRecord v t n))); some = ltb-true 0 (badRecord v t n) e })
       (at-if (ltb 0 (badElement t n)) (refusePair (badElement t n) (misfit t (pred (badElement t n)))) (accepted (firstElements t n)) (λ e. record { fault = refl; some = ltb-true 0 (badElement t n) e }) tt))

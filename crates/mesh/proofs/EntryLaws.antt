@@ -20,7 +20,7 @@ use Rattle.records.specs.WholeRecords.{WholeTable}
 use Rattle.judging.specs.declared.JudgeAnswer.{JudgeAnswer}
 use Rattle.judging.specs.declared.JudgeAnswer.the-variants as judge
 use Rattle.judging.specs.Judge.{judged, JudgeDone}
-use Rattle.judging.specs.JudgeLoops.{Judging}
+use Rattle.judging.specs.Judgement.{Judging}
 use Rattle.judging.proofs.Theorems.{judge-told, join-recorded}
 use Rattle.mesh.specs.declared.CutAnswer.{CutAnswer}
 use Rattle.mesh.specs.AnswerLoops.{firstRefusal, roomAnswer}

@@ -18,7 +18,7 @@ use Rattle.volume.specs.Volume.{pointInRange, pointAt}
 use Rattle.solids.specs.Solids.{Element}
 use Rattle.records.specs.Record.{recordFinding, recordAt}
 use Rattle.judging.specs.Judge.{judged}
-use Rattle.judging.proofs.AcceptedLaws.{Passed, passed, not-accepted}
+use Rattle.faults.proofs.RefusalLaws.{Passed, passed, not-accepted}
 use Rattle.judging.proofs.Theorems.{accepted-acceptable}
 use Rattle.mesh.specs.Signs.{badPoint, signCounts, signsOf, isAccepted, acceptedTables}
 

@@ -22,11 +22,11 @@ use Rattle.solids.proofs.Theorems.{plain}
 use Rattle.records.specs.Record.{usedOf, elementOf, recordAt}
 use Rattle.records.specs.WholeRecords.{isNumber, Whole}
 use Rattle.records.proofs.Theorems.{whole-proper}
-use Rattle.judging.specs.Judge.{badRecord}
+use Rattle.tables.specs.JudgedRecords.{badRecord}
 use Rattle.mesh.specs.Signs.{badPoint}
 use Rattle.mesh.specs.BlockLoops.{BlockIs}
 use Rattle.mesh.specs.SignLoops.{sited, sitedTet, SitedBlock, SitedTable}
-use Rattle.judging.proofs.JudgeLaws.{records-inside}
+use Rattle.tables.proofs.CleanRecordLaws.{records-inside}
 
 module _ (table : List ℤ) where
   -- what is known of a sited vertex

@@ -1,6 +1,6 @@
 -- A table in which no record has a fault: its records are whole, and their vertex numbers are between 1 and the limit.
 -- Assumes nothing.
-use mathlib.Core.Path.{_≡_, refl, subst}
+use mathlib.Core.Path.{_≡_, refl, ap, subst}
 use mathlib.Core.Bool.{false}
 use mathlib.Core.List.{List}
 use Prim.Native.Nat.{ℕ, _*_, _≤_, _<_}
@@ -8,13 +8,13 @@ use lib.Dec.{T}
 use lib.ListN.{length}
 use Rattle.limits.specs.Limits.{elementLimit, elementWidth}
 use Rattle.laws.specs.Words.{every}
-use Rattle.laws.proofs.SearchLaws.{least-all}
+use Rattle.laws.proofs.SearchLaws.{least-all, least-none}
 use Rattle.faults.specs.declared.Finding.{Finding}
 use Rattle.faults.specs.declared.Finding.the-variants.{Clean, Found}
 use Rattle.records.specs.Record.{usedOf, recordFinding, recordAt}
 use Rattle.records.specs.WholeRecords.{isNumber, WholeTable}
 use Rattle.records.proofs.Theorems.{clean-whole, clean-faultless}
-use Rattle.judging.specs.Judge.{isFault, badRecord}
+use Rattle.tables.specs.JudgedRecords.{isFault, badRecord}
 
 -- a finding that is no fault is clean
 no-fault : (f : Finding) → isFault f ≡ false → f ≡ Clean
@@ -36,3 +36,8 @@ module _ (limit : ℕ) (t : List ℕ) (n : ℕ) (none : badRecord limit t n ≡ 
 
   pub records-inside : (k : ℕ) → k < n → T (every (isNumber limit) (usedOf (recordAt t k)))
   records-inside k h = clean-faultless limit (recordAt t k) (record-clean k h) .inside
+
+-- and back: where each record is clean, none is bad
+pub none-at-fault : (limit : ℕ) (t : List ℕ) (n : ℕ) → ((k : ℕ) → k < n → recordFinding limit (recordAt t k) ≡ Clean) → badRecord limit t n ≡ 0
+unfolding badRecord
+none-at-fault limit t n h = least-none (λ k. isFault (recordFinding limit (recordAt t k))) n (λ k l. ap isFault (h k l))

@@ -1,9 +1,9 @@
--- `judging::judge::record_refusal` meets its contract: the fault found at the record, with its number.
+-- `tables::record_refusal` meets its contract: the fault found at the record, with its number.
 -- Assumes nothing.
-use Rattle.judging.proofs.VerdictLaws.{record-refused}
+use Rattle.tables.proofs.JudgedRecordLaws.{record-refused}
 use borrow.Author.Needs.{needs}
-use Rattle.judging.proofs.judge.record_refusal.Statement.{statement}
-use Rattle.judging.proofs.judge.record_refusal.Tie as tie
+use Rattle.tables.proofs.record_refusal.Statement.{statement}
+use Rattle.tables.proofs.record_refusal.Tie as tie
 
 sub-record-at : tie.Need-sub-record-at
 sub-record-at c = search needs

@@ -10,14 +10,10 @@ use Rattle.solids.specs.Solids.{Element}
 use Rattle.judging.specs.declared.JudgeAnswer.{JudgeAnswer}
 use Rattle.judging.specs.declared.JudgeAnswer.the-variants.{Done, Refused}
 use Rattle.judging.specs.Judge.{judged, judgeVerdict, JudgeDone}
-use Rattle.judging.specs.JudgeLoops.{RecordsJudging, Judging}
-use Rattle.judging.proofs.AcceptedLaws.{accepted-recorded, accepted-elements}
+use Rattle.judging.specs.Judgement.{Judging}
+use Rattle.judging.proofs.AcceptedTableLaws.{accepted-recorded, accepted-elements}
 
 module _ (v n : ℕ) (t : List ℕ) where
-  -- the judgement of an answer that is known
-  pub records-at : {r s : JudgeAnswer} → r ≡ s → RecordsJudging v n t r → RecordsJudging v n t s
-  records-at e h = rw e at h
-
   -- the answer of judging
   pub judge-done : (r : JudgeAnswer) → Judging v n t r → JudgeDone v n t r
   judge-done Done h = record { answer = ap (λ (x : Verdict (List _)). answerOf [] (andThen x λ es. accepted [])) (sym (h .verdict)) }

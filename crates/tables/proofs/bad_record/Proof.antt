@@ -1,4 +1,4 @@
--- `judging::judge::bad_record` meets its contract. The loop's invariant: none of the records that are passed has a fault.
+-- `tables::bad_record` meets its contract. The loop's invariant: none of the records that are passed has a fault.
 -- The measure is how many records are left. Assumes nothing.
 use borrow.Author.Needs.{needs}
 use native.Mathlib.Omega.{arith}
@@ -10,9 +10,9 @@ use Prim.Native.Nat.{ℕ, _+_, _-_, _≤_, _<_}
 use Rattle.laws.proofs.SearchLaws.{least-start, least-more, least-found}
 use Rattle.faults.specs.declared.Finding.{Finding}
 use Rattle.records.specs.Record.{recordFinding, recordAt}
-use Rattle.judging.specs.Judge.{isFault, badRecord}
-use Rattle.judging.proofs.judge.bad_record.Statement.{statement}
-use Rattle.judging.proofs.judge.bad_record.Tie as tie
+use Rattle.tables.specs.JudgedRecords.{isFault, badRecord}
+use Rattle.tables.proofs.bad_record.Statement.{statement}
+use Rattle.tables.proofs.bad_record.Tie as tie
 
 abbrev Inv-loop : tie.InvT-loop
 Inv-loop table limit n k₀ k = (k ≤ n) × (badRecord limit table k ≡ 0)

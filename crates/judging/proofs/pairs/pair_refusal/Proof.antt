@@ -1,9 +1,9 @@
--- `judging::judge::pair_refusal` meets its contract: the element with its lowest misfit.
+-- `judging::pairs::pair_refusal` meets its contract: the element with its lowest misfit.
 -- Assumes nothing.
-use Rattle.judging.proofs.VerdictLaws.{pair-refused}
+use Rattle.judging.proofs.TableVerdictLaws.{pair-refused}
 use borrow.Author.Needs.{needs}
-use Rattle.judging.proofs.judge.pair_refusal.Statement.{statement}
-use Rattle.judging.proofs.judge.pair_refusal.Tie as tie
+use Rattle.judging.proofs.pairs.pair_refusal.Statement.{statement}
+use Rattle.judging.proofs.pairs.pair_refusal.Tie as tie
 
 sub-misfit-of : tie.Need-sub-misfit-of
 sub-misfit-of c = search needs
