@@ -22,14 +22,14 @@ use Rattle.tables.specs.JudgedRecords.{faultIn, badRecord}
 use Rattle.judging.specs.Judge.{badElement, misfit, judged}
 use Rattle.judging.proofs.TableVerdictLaws.{judged-by-tests}
 use Rattle.mesh.specs.Cutting.{cutOf}
-use Rattle.text.specs.Line.{lineVerdict}
-use Rattle.text.specs.File.{start, linesOf, atEnd, onward, fileFrom, fileVerdict}
-use Rattle.text.specs.Records.{storedElements}
-use Rattle.text.specs.declared.terms.ReaderState.{ReaderState}
-use Rattle.text.specs.declared.terms.Rooms.{Rooms}
-use Rattle.text.specs.declared.terms.Line.{Line}
-use Rattle.text.specs.declared.terms.Line.the-variants.{Next, No}
-use Rattle.text.proofs.AcceptedLaws.{file-fits}
+use Rattle.format.specs.Line.{lineVerdict}
+use Rattle.format.specs.File.{start, linesOf, atEnd, onward, fileFrom, fileVerdict}
+use Rattle.format.specs.Records.{storedElements}
+use Rattle.format.specs.declared.ReaderState.{ReaderState}
+use Rattle.format.specs.declared.Rooms.{Rooms}
+use Rattle.format.specs.declared.Line.{Line}
+use Rattle.format.specs.declared.Line.the-variants.{Next, No}
+use Rattle.format.proofs.AcceptedFileLaws.{file-fits}
 use Rattle.converting.specs.Conversion.{rooms, cutRoom, conversion}
 
 -- both numbers are at most m

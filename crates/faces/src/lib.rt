@@ -1,14 +1,13 @@
-// The corners of a record, and the faces of its element in vertex numbers: one face as a cycle, its lowest corner and its diagonal.
+// The faces of an element in vertex numbers: one face as a cycle, its lowest corner and its diagonal.
 ghost use mathlib.Core.Path.{_≡_};
 ghost use mathlib.Core.List.{[], _∷_};
 ghost use Prim.Native.Nat.{min};
-ghost use lib.ListN.{getD, take, drop};
+ghost use lib.ListN.{getD};
 ghost use Rattle.laws.specs.Words.{among, lowest};
 ghost use Rattle.solids.specs.Solids.{at, element, three, four, holds, facesOf};
 ghost use Rattle.solids.specs.Rotations.{eqFace, sameFace};
 ghost use Rattle.solids.specs.Fit.{backFace};
 ghost use Rattle.solids.specs.Cut.{lowestFirst, onDiagonal};
-ghost use Rattle.records.specs.Record.{usedOf};
 ghost use Rattle.faces.specs.Faces.{faceOf};
 use solids::Place;
 use solids::Solid;
@@ -18,34 +17,6 @@ use solids::Vertex;
 pub enum Face {
     Three(Vertex, Vertex, Vertex),
     Four(Vertex, Vertex, Vertex, Vertex),
-}
-
-// The first n numbers, or all where they are fewer.
-fn front(numbers: &[u16], n: usize) -> &[u16]
-    ensures { λ r. ⌜ now r ≡ take n (now (numbers .entry)) ⌝ }
-{
-    if numbers.len() <= n {
-        return numbers;
-    }
-    &numbers[..n]
-}
-
-// The numbers behind the first n, or none where they are fewer.
-fn behind(numbers: &[u16], n: usize) -> &[u16]
-    ensures { λ r. ⌜ now r ≡ drop n (now (numbers .entry)) ⌝ }
-{
-    if numbers.len() <= n {
-        return &numbers[..0];
-    }
-    &numbers[n..]
-}
-
-// The vertex numbers of a record's corners.
-pub fn corners_of(element: &[u16]) -> &[u16]
-    ensures { λ r. ⌜ now r ≡ usedOf (now (element .entry)) ⌝ }
-{
-    let kind = records::kind_of(element) as usize;
-    front(front(behind(element, 1), 8), kind)
 }
 
 // The vertex at a place of an element; 0 where there is none.

@@ -94,8 +94,8 @@ fn share_face(
 pub fn pair_fits(a: &[u16], b: &[u16]) -> bool
     ensures { λ r. ⌜ r ≡ fits (elementOf (now (a .entry))) (elementOf (now (b .entry))) ⌝ }
 {
-    let corners_a = faces::corners_of(a);
-    let corners_b = faces::corners_of(b);
+    let corners_a = records::corners_of(a);
+    let corners_b = records::corners_of(b);
     let mut found = [0u16; 8];
     let n = sets::common_of(corners_a, corners_b, &mut found);
     if n <= 1 {

@@ -13,13 +13,14 @@ use lib.ListN.{length, take, drop, set, replicate, length-append, length-set}
 use lib.Seq.{take-set-le, take-suc-set}
 use borrow.Author.Tests.{ne-eqb, le-ltb}
 use Rattle.limits.specs.Limits.{lineEnd, space, minus, digit0, fieldsAt}
-use Rattle.text.specs.Number.{thousandthsOf, valueOf}
-use Rattle.text.specs.Line.{fieldVerdict}
-use Rattle.text.specs.QuickLoops.{CoordinateAt, NumberAt, Good, Each, ended, endOf, FieldsRead, Cleared}
-use Rattle.text.specs.declared.terms.Role.{Role}
-use Rattle.text.specs.declared.terms.Role.the-variants.{VertexLine, ElementLine}
-use Rattle.text.specs.declared.terms.ReaderState.{ReaderState}
-use Rattle.text.proofs.QuickNumbers.{above-lower}
+use Rattle.format.specs.Number.{thousandthsOf, valueOf}
+use Rattle.format.specs.Line.{fieldVerdict}
+use Rattle.text.specs.QuickLoops.{CoordinateAt, NumberAt, endOf, FieldsRead, Cleared}
+use Rattle.format.specs.GoodFields.{Good, Each, ended}
+use Rattle.format.specs.declared.Role.{Role}
+use Rattle.format.specs.declared.Role.the-variants.{VertexLine, ElementLine}
+use Rattle.format.specs.declared.ReaderState.{ReaderState}
+use Rattle.format.proofs.NumberLaws.{above-lower}
 
 -- ---- one field
 

@@ -13,23 +13,25 @@ use borrow.Author.Tests.{leb-false}
 use Rattle.limits.specs.Limits.{lineEnd, space, minus, fieldsAt, markWidth, vertexLimit, elementLimit, vertexWidth, elementWidth, cornerWidth}
 use Rattle.laws.specs.Pieces.{Pieces, rest, piece, split}
 use Rattle.laws.proofs.PieceLaws.{Free, split-joined, split-free}
-use Rattle.text.specs.Number.{thousandthsOf, numberOf, whole, valueOf}
-use Rattle.text.specs.Line.{markWith, markOf, roleOf, wants, fieldsOf, areFields, firstOf, fieldsVerdict, badMark, tooMany, badShape, noRoom, badCounts, afterRole, lineVerdict}
-use Rattle.text.specs.Records.{vertexRecord, tipFirst, cornerFields, elementRecord, vertexRecords, elementRecords}
-use Rattle.text.specs.Loops.{Own}
-use Rattle.text.specs.QuickLoops.{Above, Good, Each, ended, FieldsRead, Cleared, Room, ElementRead, LineQuick}
-use Rattle.text.specs.declared.terms.Mark.{Mark}
-use Rattle.text.specs.declared.terms.Mark.the-variants.{Vx, Te, Py, Pz, Pr, Hx, En, Unknown}
-use Rattle.text.specs.declared.terms.Role.{Role}
-use Rattle.text.specs.declared.terms.Role.the-variants.{VertexLine, ElementLine}
-use Rattle.text.specs.declared.terms.Judged.the-variants.{Passed}
-use Rattle.text.specs.declared.terms.ReaderState.{ReaderState}
-use Rattle.text.specs.declared.terms.Rooms.{Rooms}
-use Rattle.text.specs.declared.terms.Line.the-variants.{Next}
-use Rattle.text.proofs.FieldLaws.{some-bytes}
-use Rattle.text.proofs.LineLaws.{line-next}
-use Rattle.text.proofs.MarkLaws.{low-first, low-second}
-use Rattle.text.proofs.QuickNumbers.{above-append, above-lower, above-free}
+use Rattle.format.specs.Number.{thousandthsOf, numberOf, whole, valueOf}
+use Rattle.format.specs.Line.{markWith, markOf, roleOf, wants, fieldsOf, areFields, firstOf, fieldsVerdict, badMark, tooMany, badShape, noRoom, badCounts, afterRole, lineVerdict}
+use Rattle.format.specs.Records.{vertexRecord, tipFirst, cornerFields, elementRecord, vertexRecords, elementRecords}
+use Rattle.text.specs.ReadingLoops.{Own}
+use Rattle.format.specs.GoodFields.{Above, Good, Each, ended}
+use Rattle.text.specs.QuickLoops.{FieldsRead, Cleared, Room, ElementRead, LineQuick}
+use Rattle.format.specs.declared.Mark.{Mark}
+use Rattle.format.specs.declared.Mark.the-variants.{Vx, Te, Py, Pz, Pr, Hx, En, Unknown}
+use Rattle.format.specs.declared.Role.{Role}
+use Rattle.format.specs.declared.Role.the-variants.{VertexLine, ElementLine}
+use Rattle.format.specs.declared.Judged.the-variants.{Passed}
+use Rattle.format.specs.declared.ReaderState.{ReaderState}
+use Rattle.format.specs.declared.Rooms.{Rooms}
+use Rattle.format.specs.declared.Line.the-variants.{Next}
+use Rattle.format.proofs.FieldLaws.{some-bytes}
+use Rattle.format.proofs.FileRecordLaws.{corners-plain}
+use Rattle.format.proofs.LineLaws.{line-next}
+use Rattle.format.proofs.MarkLaws.{low-first, low-second}
+use Rattle.format.proofs.NumberLaws.{above-append, above-lower, above-free}
 
 -- ---- the record of an element line
 
@@ -135,19 +137,6 @@ numbers-all (suc n) k [] f e =
     ap (λ (l : List ℕ). valueOf f ∷ l) (none-left n ∙ ap (λ (m : ℕ). replicate m 0) q)
 numbers-all (suc n) k (h ∷ fs) f e = ap (λ (l : List ℕ). valueOf h ∷ l) (numbers-all n k fs f (omega arith))
 
--- eight numbers, taken one by one
-pub eight : (l : List ℕ) → length l ≡ cornerWidth → map (λ k. getD l k 0) (cornerFields false) ≡ l
-eight [] h = absurd (omega arith)
-eight (a ∷ []) h = absurd (omega arith)
-eight (a ∷ b ∷ []) h = absurd (omega arith)
-eight (a ∷ b ∷ c ∷ []) h = absurd (omega arith)
-eight (a ∷ b ∷ c ∷ d ∷ []) h = absurd (omega arith)
-eight (a ∷ b ∷ c ∷ d ∷ e ∷ []) h = absurd (omega arith)
-eight (a ∷ b ∷ c ∷ d ∷ e ∷ f ∷ []) h = absurd (omega arith)
-eight (a ∷ b ∷ c ∷ d ∷ e ∷ f ∷ g ∷ []) h = absurd (omega arith)
-eight (a ∷ b ∷ c ∷ d ∷ e ∷ f ∷ g ∷ i ∷ []) h = refl
-eight (a ∷ b ∷ c ∷ d ∷ e ∷ f ∷ g ∷ i ∷ j ∷ l) h = absurd (omega arith)
-
 -- ---- a line
 
 -- the mark of t, a space, and these fields
@@ -206,8 +195,17 @@ module _ (t : List ℕ) (rooms : Rooms) (state : ReaderState) (mark : Mark) (rol
 
       its-verdict : lineVerdict rooms state true (lineOf t fs f) ≡ Next (afterRole state role)
       its-verdict =
-          sym (line-next rooms state (lineOf t fs f) mark role its-mark (a .said) (a .going) (a .known) (a .few) its-shape
-          (ap (fieldsVerdict state role) its-fields ∙ pieces-pass state role fs f each good) (a .room) (counts (fieldsOf (lineOf t fs f))))
+          sym (line-next (record {
+            earlier = record {
+              earlier = record {
+                earlier = record { earlier = record { earlier = record { marked = its-mark; said = a .said; going = a .going }; known = a .known }; few = a .few };
+                shaped = its-shape;
+              };
+              passed = ap (fieldsVerdict state role) its-fields ∙ pieces-pass state role fs f each good;
+            };
+            room = a .room;
+          })
+          (counts (fieldsOf (lineOf t fs f))))
 
 pub allowed : (t : List ℕ) (rooms : Rooms) (state : ReaderState) (mark : Mark) (role r : Role) → r ≡ role → badMark state r ≡ false → tooMany state r ≡ false
     → noRoom rooms state r ≡ false → state .ended ≡ false → getD t markWidth 0 ≡ space → mark ≡ markOf t → r ≡ roleOf mark → Allowed t rooms state mark role
@@ -308,7 +306,7 @@ module _ (t : List ℕ) (mark : Mark) (rooms : Rooms) (state : ReaderState) (ver
         simp (length-append, length-map, length-replicate) (omega arith) in
         rw (← r, ← m, p, e)
         (ap (λ (l : List ℕ). wants mark ∷ map (λ j. getD l j 0) (cornerFields false)) (numbers-all cornerWidth k fs f q)
-        ∙ ap (λ (l : List ℕ). wants mark ∷ l) (eight numbers z))
+        ∙ ap (λ (l : List ℕ). wants mark ∷ l) (corners-plain numbers z))
 
     no-vertex : (l : List ℕ) → ElementLine ≡ roleOf (markOf l) → vertexRecords state (roleOf (markOf l)) l ≡ []
     unfolding vertexRecords

@@ -9,12 +9,13 @@ use lib.IntN.{ℤ}
 use Rattle.limits.specs.Limits.{vertexLimit, elementLimit, vertexWidth, elementWidth}
 use Rattle.laws.specs.Lent.{laid}
 use Rattle.faults.specs.Refusals.{answerOf}
-use Rattle.text.specs.File.{fileVerdict}
-use Rattle.text.specs.Records.{storedVertices, storedElements, verdictOf, roomsOf, ReadDone}
+use Rattle.format.specs.File.{fileVerdict}
+use Rattle.format.specs.Records.{storedVertices, storedElements}
+use Rattle.text.specs.Reading.{verdictOf, roomsOf, ReadDone}
 use Rattle.text.specs.declared.ReadAnswer.{ReadAnswer}
 use Rattle.text.specs.declared.ReadAnswer.the-variants.{Done, Refused}
-use Rattle.text.specs.Loops.{countsIn, FileRead}
-use Rattle.text.proofs.AcceptedLaws.{file-fits}
+use Rattle.text.specs.ReadingLoops.{countsIn, FileRead}
+use Rattle.format.proofs.AcceptedFileLaws.{file-fits}
 
 -- the counts of an answer are within the limits, and their records within the tables
 pub record Copyable (vertices : List ℤ) (elements : List ℕ) (r : ReadAnswer) : Type 0 where

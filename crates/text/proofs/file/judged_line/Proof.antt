@@ -5,7 +5,7 @@ use native.Mathlib.Omega.{arith}
 use mathlib.Core.Path.{sym, _∙_}
 use denote.Ref.{now}
 use lib.ListN.{length}
-use Rattle.text.proofs.FileLaws.{file-open, file-no}
+use Rattle.format.proofs.FileLaws.{file-open, file-no}
 use Rattle.text.proofs.KeptLaws.{ready-few, line-kept}
 use borrow.Author.Needs.{needs}
 use Rattle.text.proofs.file.judged_line.Statement.{statement}

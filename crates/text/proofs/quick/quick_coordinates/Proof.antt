@@ -6,10 +6,10 @@ use mathlib.Core.Path.{_∙_}
 use borrow.Author.Tests.{eq-eqb, ne-eqb}
 use borrow.Author.Needs.{needs}
 use Rattle.limits.specs.Limits.{vertexWidth}
-use Rattle.text.specs.Number.{thousandthsOf}
-use Rattle.text.specs.declared.terms.Role.the-variants.{VertexLine}
-use Rattle.text.specs.declared.terms.ReaderState.{ReaderState}
-use Rattle.text.proofs.NumberLaws.{back}
+use Rattle.format.specs.Number.{thousandthsOf}
+use Rattle.format.specs.declared.Role.the-variants.{VertexLine}
+use Rattle.format.specs.declared.ReaderState.{ReaderState}
+use Rattle.numbers.proofs.NegativeLaws.{back}
 use Rattle.text.proofs.QuickFields.{SoFar, so-none, so-more, so-done, so-stop, end-positive, coordinate-good, coordinate-says}
 use Rattle.text.proofs.quick.quick_coordinates.Statement.{statement}
 use Rattle.text.proofs.quick.quick_coordinates.Tie as tie

@@ -4,8 +4,8 @@ use Prim.Native.Nat.{_+_, _-_, _≤_}
 use native.Mathlib.Omega.{arith}
 use mathlib.Core.Path.{_∙_}
 use borrow.Author.Tests.{eq-eqb, ne-eqb}
-use Rattle.text.specs.Number.{valueOf}
-use Rattle.text.specs.declared.terms.Role.the-variants.{ElementLine}
+use Rattle.format.specs.Number.{valueOf}
+use Rattle.format.specs.declared.Role.the-variants.{ElementLine}
 use Rattle.text.proofs.QuickFields.{SoFar, so-none, so-more, so-done, so-stop, end-positive, number-good, number-says}
 use borrow.Author.Needs.{needs}
 use Rattle.text.proofs.quick.quick_corners.Statement.{statement}
