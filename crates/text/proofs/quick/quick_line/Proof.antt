@@ -21,8 +21,11 @@ abbrev start5 : tie.Else5 → tie.Start
 start5 c = start4 (c .before .before)
 
 -- where the role is known
+abbrev told3 : tie.Else3 → tie.After-role-of
+told3 c = c .before .before
+
 abbrev told : tie.Else5 → tie.After-role-of
-told c = c .before .before .before .before .before .before
+told c = told3 (c .before .before .before .before)
 
 -- the tests are passed, whatever the role is
 passed : (c : tie.Else5) (role : Role) → told c .role-of .result ≡ role
