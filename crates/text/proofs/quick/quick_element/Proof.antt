@@ -3,7 +3,8 @@ use Prim.Native.Nat.{_*_}
 use native.Mathlib.Omega.{arith}
 use mathlib.Core.Path.{sym, _∙_}
 use lib.ListN.{length-set}
-use Rattle.text.proofs.QuickLines.{wants-few, element-none, element-read}
+use Rattle.format.proofs.GoodLineLaws.{wants-few}
+use Rattle.text.proofs.QuickLines.{element-none, element-read}
 use borrow.Author.Needs.{needs}
 use Rattle.text.proofs.quick.quick_element.Statement.{statement}
 use Rattle.text.proofs.quick.quick_element.Tie as tie
