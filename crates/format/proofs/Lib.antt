@@ -6,6 +6,7 @@ pub mod FieldLaws
 pub mod LineLaws
 pub mod FileLaws
 pub mod FileRecordLaws
+pub mod GoodLineLaws
 pub mod AcceptedFileLaws
 pub mod CommaLaws
 pub mod Theorems

@@ -10,7 +10,7 @@ use mathlib.Core.List.{List, [], _∷_, _++_}
 use lib.Dec.{eqb, leb, lit<}
 use lib.ListN.{length, drop, getD, drop-of-length-le}
 use lib.Seq.{drop-cons}
-use borrow.Author.Tests.{leb-true}
+use borrow.Author.Tests.{leb-true, leb-false}
 use Rattle.limits.specs.Limits.{digit0, digit9, numberDigits}
 use Rattle.laws.proofs.PieceLaws.{Free}
 use Rattle.faults.specs.declared.Fault.the-variants as fault
@@ -34,6 +34,15 @@ above-lower b c (x ∷ l) h f = (omega (arith, f .0), above-lower b c l h (f .1)
 pub above-free : (b c : ℕ) (l : List ℕ) → c < b → Above b l → Free c l
 above-free b c [] h f = tt
 above-free b c (x ∷ l) h f = (λ e. omega (arith, f .0), above-free b c l h (f .1))
+
+-- where no lower byte stands, none is below b
+pub free-above : (b : ℕ) (l : List ℕ) → ((c : ℕ) → c < b → Free c l) → Above b l
+free-above b [] f = tt
+free-above b (x ∷ l) f = (by (leb b x) refl, free-above b l (λ c h. f c h .1))
+  where
+    by : (q : Bool) → leb b x ≡ q → b ≤ x
+    by true e = leb-true b x e
+    by false e = absurd (f x (leb-false b x e) .0 refl)
 
 -- ---- a digit
 

@@ -1,9 +1,10 @@
 -- Fields that pass, in the words that reading and writing share: what is written reads back because its fields are such.
 use Prim.Native.Nat.{ℕ, _≤_, _<_}
 use mathlib.Core.Path.{_≡_}
-use mathlib.Core.List.{List, [], _∷_, _++_}
+use mathlib.Core.List.{List, [], _∷_}
 use lib.ListN.{length}
 use Rattle.limits.specs.Limits.{space, minus}
+use Rattle.laws.specs.Words.{gather}
 use Rattle.format.specs.Line.{fieldVerdict}
 use Rattle.format.specs.declared.Role.{Role}
 use Rattle.format.specs.declared.Judged.the-variants.{Passed}
@@ -25,7 +26,6 @@ abbrev pub Each : (List ℕ → Type 0) → List (List ℕ) → Type 0
 Each P [] = Unit {0}
 Each P (f ∷ fs) = P f × Each P fs
 
--- fields, each with the space that ends it
-abbrev pub ended : List (List ℕ) → List ℕ
-ended [] = []
-ended (f ∷ fs) = f ++ (space ∷ ended fs)
+-- fields, each preceded by exactly one space
+abbrev pub spaced : List (List ℕ) → List ℕ
+spaced fs = gather (λ (f : List ℕ). space ∷ f) fs

@@ -12,7 +12,7 @@ use Rattle.laws.specs.Pieces.{split}
 use Rattle.format.specs.Number.{spelt, whole, decimals, signed, unsigned, coordinateOf, numberOf, valueOf}
 use Rattle.format.specs.Line.{wants, roleOf, afterRole}
 use Rattle.format.specs.Records.{tipFirst}
-use Rattle.format.specs.GoodFields.{Above, Good, Each, ended}
+use Rattle.format.specs.GoodFields.{Above, Good, Each, spaced}
 use Rattle.text.specs.ReadingLoops.{Own, LineTaken}
 use Rattle.format.specs.declared.Spelt.the-variants.{Of}
 use Rattle.format.specs.declared.Coordinate.the-variants.{Thousandths}
@@ -112,13 +112,12 @@ pub record Room {A : Type 0} (most base n : ℕ) (table : List A) : Type 0 where
 -- the line at the front of t has so many good fields and ends before place n; what they say stands in the table from index `base` on
 pub record FieldsAt {A : Type 0} (value : List ℕ → A) (state : ReaderState) (role : Role) (want : ℕ) (t : List ℕ) (base : ℕ) (table : List A) (n : ℕ) (table′ : List A) : Type 0 where
   pub fields : List (List ℕ)
-  pub final : List ℕ
-  pub count : suc (length fields) ≡ want
-  pub here : drop fieldsAt t ≡ ended fields ++ (final ++ (lineEnd ∷ drop n t))
+  pub some : 0 < length fields
+  pub count : length fields ≡ want
+  pub here : space ∷ drop fieldsAt t ≡ spaced fields ++ (lineEnd ∷ drop n t)
   pub inside : n ≤ length t
   pub each : Each (Good state role) fields
-  pub good : Good state role final
-  pub front : take (base + want) table′ ≡ take base table ++ map value (fields ++ (final ∷ []))
+  pub front : take (base + want) table′ ≡ take base table ++ map value fields
 
 -- the same, or 0 where it is declined; what stands before index `base` is left alone
 pub record FieldsRead {A : Type 0} (value : List ℕ → A) (state : ReaderState) (role : Role) (want : ℕ) (t : List ℕ) (base : ℕ) (table : List A) (n : ℕ) (table′ : List A) : Type 0 where
