@@ -1,23 +1,28 @@
--- From the judgement and the filled blocks to the answer, and from the answer back.
+-- From the judgement and the filled blocks to the answer, and from the answer back; and the arrays of an accepted table.
 -- Assumes nothing.
 use mathlib.Core.Path.{_≡_, refl, sym, ap, _∙_, subst}
 use mathlib.Core.List.{List, [], _∷_}
-use Prim.Native.Nat.{ℕ}
+use Prim.Native.Nat.{ℕ, _≤_}
 use native.Mathlib.Omega.{arith}
-use lib.ListN.{length}
-use Rattle.laws.proofs.LentLaws.{laid-none}
+use lib.ListN.{length, take, drop, length-map}
+use lib.Seq.{take-at}
+use Rattle.limits.specs.Limits.{elementLimit, tetrahedronLimit}
+use Rattle.laws.specs.Lent.{laid}
+use Rattle.laws.proofs.LentLaws.{laid-none, placed-laid, length-placed}
 use Rattle.faults.specs.declared.Refusal.{Refusal}
 use Rattle.faults.specs.Refusals.{Verdict, accepted, refused, andThen, answerOf}
 use Rattle.faults.proofs.Theorems.{answer-tells-verdict}
 use Rattle.solids.specs.Solids.{Element}
-use Rattle.solids.specs.Cut.{cutMesh}
+use Rattle.solids.specs.Cut.{cut, cutMesh}
+use Rattle.records.proofs.Theorems.{first-length}
+use Rattle.tets.specs.Tets.{keyOf}
 use Rattle.judging.specs.declared.JudgeAnswer.{JudgeAnswer}
 use Rattle.judging.specs.Judge.{judged, JudgeDone}
 use Rattle.judging.specs.JudgeLoops.{Judging}
-use Rattle.judging.proofs.Theorems.{judge-told}
+use Rattle.judging.proofs.Theorems.{judge-told, accepted-elements, accepted-few, accepted-tetrahedra}
 use Rattle.blocks.specs.declared.BlocksAnswer.{BlocksAnswer}
 use Rattle.blocks.specs.declared.BlocksAnswer.the-variants.{Done, Refused}
-use Rattle.blocks.specs.Blocks.{blocksVerdict, BlocksDone, BlocksCut}
+use Rattle.blocks.specs.Blocks.{keysOf, sizesOf, blocksVerdict, BlocksDone, BlocksCut}
 use Rattle.blocks.specs.BlockLoops.{Filled}
 
 -- the judgement of an answer that is known
@@ -69,3 +74,42 @@ module _ {v n : ℕ} {t keys sizes keys′ sizes′ : List ℕ} where
         sizesLaid = rw p at (h .sizesLaid);
       }
       go (refused y) p e = let z : _≡_ {A = ℕ} 0 1 = cc in absurd (omega arith)
+
+-- ---- how long the arrays are
+
+-- what is laid where it has room leaves the length
+length-laid : (a l : List ℕ) → length a ≤ length l → length (laid a l) ≡ length l
+length-laid a l h = ap length (sym (placed-laid l a)) ∙ length-placed l 0 a (omega arith)
+
+module _ {v n : ℕ} {t keys sizes : List ℕ} {r : ℕ} {keys′ sizes′ : List ℕ} (b : BlocksCut v n t keys sizes r keys′ sizes′) where
+  pub keys-many : length (keysOf (b .elements)) ≡ r
+  unfolding keysOf
+  keys-many = length-map (cutMesh (b .elements)) keyOf ∙ sym (b .count)
+
+  pub sizes-many : length (sizesOf (b .elements)) ≡ length (b .elements)
+  unfolding sizesOf
+  sizes-many = length-map (b .elements) (λ e. length (cut e))
+
+  -- as many keys as the limit allows, and all of them are there
+  pub keys-few : r ≤ tetrahedronLimit
+  keys-few = omega (arith, b .count, accepted-tetrahedra v n t (b .elements) (b .accepts))
+
+  pub keys-kept : tetrahedronLimit ≤ length keys → length keys′ ≡ length keys
+  keys-kept h = ap length (b .keysLaid) ∙ length-laid (keysOf (b .elements)) keys (omega (arith, keys-few, keys-many))
+
+  pub sizes-kept : elementLimit ≤ length sizes → length sizes′ ≡ length sizes
+  sizes-kept h =
+      ap length (b .sizesLaid)
+      ∙ length-laid (sizesOf (b .elements)) sizes (omega (arith, sizes-many, accepted-few v n t (b .elements) (b .accepts)))
+
+  -- the first of them are those of the cut
+  pub keys-first : take r keys′ ≡ keysOf (b .elements)
+  unfolding laid
+  keys-first = ap (take r) (b .keysLaid) ∙ take-at (keysOf (b .elements)) (drop (length (keysOf (b .elements))) keys) r keys-many
+
+  pub sizes-first : take n sizes′ ≡ sizesOf (b .elements)
+  unfolding laid
+  sizes-first =
+      ap (take n) (b .sizesLaid)
+      ∙ take-at (sizesOf (b .elements)) (drop (length (sizesOf (b .elements))) sizes) n
+      (sizes-many ∙ ap length (accepted-elements v n t (b .elements) (b .accepts)) ∙ first-length t n)

@@ -2,9 +2,11 @@
 -- Assumes nothing.
 use mathlib.Core.Path.{_≡_, sym, ap, _∙_}
 use mathlib.Core.List.{List, [], _∷_, map}
-use Prim.Native.Nat.{ℕ}
+use Prim.Native.Nat.{ℕ, _≤_}
 use native.Mathlib.Omega.{arith}
 use lib.Dec.{T}
+use lib.ListN.{length, take}
+use Rattle.limits.specs.Limits.{elementLimit, tetrahedronLimit}
 use Rattle.laws.specs.Words.{every}
 use Rattle.faults.specs.declared.Refusal.{Refusal}
 use Rattle.faults.specs.Refusals.{accepted, refused}
@@ -15,7 +17,7 @@ use Rattle.tets.specs.Tets.{keyed}
 use Rattle.judging.specs.Judge.{judged}
 use Rattle.blocks.specs.declared.BlocksAnswer.{BlocksAnswer}
 use Rattle.blocks.specs.declared.BlocksAnswer.the-variants.{Done, Refused}
-use Rattle.blocks.specs.Blocks.{keysOf, numbered, blocksVerdict, BlocksDone, BlocksCut}
+use Rattle.blocks.specs.Blocks.{keysOf, sizesOf, numbered, blocksVerdict, BlocksDone, BlocksCut}
 use Rattle.blocks.proofs.BlocksAnswerLaws as A
 use Rattle.blocks.proofs.NumberLaws as N
 
@@ -42,6 +44,23 @@ blocks-refused = A.blocks-refused
 
 pub blocks-cut : {v n : ℕ} {t keys sizes keys′ sizes′ : List ℕ} {r : ℕ} → BlocksDone v n t keys sizes (Done r) keys′ sizes′ → BlocksCut v n t keys sizes r keys′ sizes′
 blocks-cut = A.blocks-cut
+
+-- the count, both arrays' lengths, and what stands in their front
+module _ {v n : ℕ} {t keys sizes : List ℕ} {r : ℕ} {keys′ sizes′ : List ℕ} (b : BlocksCut v n t keys sizes r keys′ sizes′) where
+  pub keys-few : r ≤ tetrahedronLimit
+  keys-few = A.keys-few b
+
+  pub keys-kept : tetrahedronLimit ≤ length keys → length keys′ ≡ length keys
+  keys-kept = A.keys-kept b
+
+  pub sizes-kept : elementLimit ≤ length sizes → length sizes′ ≡ length sizes
+  sizes-kept = A.sizes-kept b
+
+  pub keys-first : take r keys′ ≡ keysOf (b .elements)
+  keys-first = A.keys-first b
+
+  pub sizes-first : take n sizes′ ≡ sizesOf (b .elements)
+  sizes-first = A.sizes-first b
 
 -- ---- what the keys of an accepted table tell
 
