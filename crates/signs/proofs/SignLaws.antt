@@ -1,37 +1,27 @@
--- The counts of the sign report: tetrahedron by tetrahedron, and element by element; they add up to the number of tetrahedra.
+-- The counts of the sign report: tetrahedron by tetrahedron, and block by block; they add up to the number of tetrahedra.
 -- Assumes nothing.
 use mathlib.Core.Path.{_≡_, refl, sym, ap, _∙_}
 use mathlib.Core.Bool.{Bool, true, false, cond, not, _&&_}
-use mathlib.Core.List.{List, [], _∷_, _++_, append-nil}
-use Prim.Native.Nat.{ℕ, zero, suc, _+_, _*_, _≤_}
+use mathlib.Core.List.{List, [], _∷_, _++_, append-nil, map}
+use Prim.Native.Nat.{ℕ, zero, suc, _+_, _≤_}
 use native.Mathlib.Nat.{zero-add}
 use native.Mathlib.Omega.{arith}
-use borrow.Author.Tests.{lt-ltb, le-ltb, ltb-false, ne-eqb}
-use lib.Dec.{eqb, ltb}
+use borrow.Author.Tests.{lt-ltb, le-ltb, ne-eqb}
+use lib.Dec.{eqb}
 use lib.IntN.{ℤ, pos, negsuc, natAbs}
 use lib.ListN.{length}
 use lib.Signed.{ltZ}
-use Rattle.limits.specs.Limits.{vertexWidth}
-use Rattle.laws.specs.Words.{count, every}
+use Rattle.laws.specs.Words.{count, every, gather}
 use Rattle.laws.proofs.EveryLaws.{count-append}
-use Rattle.faults.specs.declared.Fault.the-variants.{Room, Range}
-use Rattle.faults.specs.declared.Refusal.{Refusal}
-use Rattle.faults.specs.Refusals.{Verdict, accepted, refused, refuse, refuseIf, answerOf}
+use Rattle.laws.proofs.ListLaws.{gather-append}
 use Rattle.solids.specs.Solids.{Tet, Element}
 use Rattle.solids.specs.Cut.{cut, cutMesh}
-use Rattle.judging.specs.declared.JudgeAnswer.the-variants as judge
-use Rattle.mesh.specs.declared.SignCounts.{SignCounts}
-use Rattle.mesh.specs.declared.signs.Sign.{Sign}
-use Rattle.mesh.specs.declared.signs.Sign.the-variants.{Positive, Zero, Negative}
-use Rattle.mesh.specs.declared.signs.Tally.{Tally}
-use Rattle.mesh.specs.declared.SignAnswer.{SignAnswer}
-use Rattle.mesh.specs.declared.SignAnswer.the-variants.{Done, Refused}
-use Rattle.judging.specs.Judge.{judged}
-use Rattle.mesh.specs.AnswerLoops.{firstRefusal, roomAnswer}
-use Rattle.mesh.specs.Signs.{volumeIn, isPositive, isZero, isNegative, sound, signCounts, badPoint, signsOf, signVerdict, SignDone}
-use Rattle.mesh.specs.BlockLoops.{tetsIn, BlockIs}
-use Rattle.mesh.specs.SignLoops.{rangeAnswer, verticesAnswer, signOf, withSign, Tallied, allPositive, ofCounts, FewSums, Summed}
-use Rattle.laws.proofs.ListLaws.{gather-append}
+use Rattle.signs.specs.declared.SignCounts.{SignCounts}
+use Rattle.signs.specs.declared.counting.Sign.{Sign}
+use Rattle.signs.specs.declared.counting.Sign.the-variants.{Positive, Zero, Negative}
+use Rattle.signs.specs.declared.counting.Tally.{Tally}
+use Rattle.signs.specs.Signs.{volumeIn, isPositive, isZero, isNegative, sound, signCounts}
+use Rattle.signs.specs.SignLoops.{blockCounts, signOf, withSign, Tallied, allPositive, ofCounts, FewSums, Summed}
 
 -- ---- a sign
 
@@ -146,7 +136,7 @@ module _ (table : List ℤ) where
   }
 
   -- each tetrahedron has one of the three signs
-  pub counts-add : (ts : List (Tet ℕ)) → count (isPositive table) ts + count (isZero table) ts + count (isNegative table) ts ≡ length ts
+  counts-add : (ts : List (Tet ℕ)) → count (isPositive table) ts + count (isZero table) ts + count (isNegative table) ts ≡ length ts
   counts-add [] = refl
   counts-add (t ∷ ts) =
       rw (positive-by-sign table t, zero-by-sign table t, negative-by-sign table t)
@@ -172,37 +162,36 @@ module _ (table : List ℤ) where
       go Zero h = ap (λ b. b && eqb (0 + negatives) 0) (ne-eqb (1 + zeros) 0 (omega arith))
       go Negative h = ap (λ b. eqb (0 + zeros) 0 && b) (ne-eqb (1 + negatives) 0 (omega arith)) ∙ and-false (eqb (0 + zeros) 0)
 
-  -- the four counts, one by one
-  pub record CountsAre (es : List Element) (r : SignCounts) : Type 0 where
-    pub positive : r .positive ≡ count (isPositive table) (cutMesh es)
-    pub zero : r .zero ≡ count (isZero table) (cutMesh es)
-    pub negative : r .negative ≡ count (isNegative table) (cutMesh es)
-    pub unsound : r .unsound ≡ count (λ e. not (sound table e)) es
+  -- the four counts of blocks, one by one
+  record CountsAre (bs : List (List (Tet ℕ))) (r : SignCounts) : Type 0 where
+    positive : r .positive ≡ count (isPositive table) (gather (λ b. b) bs)
+    zero : r .zero ≡ count (isZero table) (gather (λ b. b) bs)
+    negative : r .negative ≡ count (isNegative table) (gather (λ b. b) bs)
+    unsound : r .unsound ≡ count (λ b. not (sound table b)) bs
 
-  pub to-list : {es : List Element} {r : SignCounts} → CountsAre es r → ofCounts r ≡ signCounts table es
-  unfolding signCounts
+  to-list : {bs : List (List (Tet ℕ))} {r : SignCounts} → CountsAre bs r → ofCounts r ≡ blockCounts table bs
+  unfolding blockCounts
   to-list h = λ i. h .positive i ∷ h .zero i ∷ h .negative i ∷ h .unsound i ∷ []
 
-  pub from-list : {es : List Element} {r : SignCounts} → ofCounts r ≡ signCounts table es → CountsAre es r
-  unfolding signCounts
+  from-list : {bs : List (List (Tet ℕ))} {r : SignCounts} → ofCounts r ≡ blockCounts table bs → CountsAre bs r
+  unfolding blockCounts
   from-list h = record { positive = cc; zero = cc; negative = cc; unsound = cc }
 
-  pub counts-none : ofCounts (record { positive = 0; zero = 0; negative = 0; unsound = 0 }) ≡ signCounts table []
-  unfolding signCounts cutMesh
+  pub counts-none : ofCounts (record { positive = 0; zero = 0; negative = 0; unsound = 0 }) ≡ blockCounts table []
+  unfolding blockCounts
   counts-none = refl
 
-  -- one element: its tetrahedra by sign, and 1 where it is not sound
-  module _ (e : Element) {keys : List ℕ} {n : ℕ} (k : BlockIs keys n (cut e)) {c : Tally} (h : Tallied table (tetsIn keys n) c) where
-    alone : (P : Tet ℕ → Bool) {m : ℕ} → m ≡ count P (tetsIn keys n) → m ≡ count P (cutMesh (e ∷ []))
-    unfolding cutMesh
-    alone P p = p ∙ ap (count P) (k .same ∙ sym (append-nil (cut e)))
+  -- one block: its tetrahedra by sign, and 1 where it is not sound
+  module _ {ts : List (Tet ℕ)} {c : Tally} (h : Tallied table ts c) where
+    alone : (P : Tet ℕ → Bool) {m : ℕ} → m ≡ count P ts → m ≡ count P (gather (λ b. b) (ts ∷ []))
+    alone P p = p ∙ ap (count P) (sym (append-nil ts))
 
-    -- the tally says whether the element is sound
-    pub sound-by-tally : allPositive c ≡ sound table e
+    -- the tally says whether it is sound
+    pub sound-by-tally : allPositive c ≡ sound table ts
     unfolding sound
-    sound-by-tally = (λ i. eqb (h .zero i) 0 && eqb (h .negative i) 0) ∙ tally-sound (tetsIn keys n) ∙ ap (every (isPositive table)) (k .same)
+    sound-by-tally = (λ i. eqb (h .zero i) 0 && eqb (h .negative i) 0) ∙ tally-sound ts
 
-    pub counts-of-one : {m : ℕ} → m ≡ count (λ x. not (sound table x)) (e ∷ []) → ofCounts (record { positive = c .positive; zero = c .zero; negative = c .negative; unsound = m }) ≡ signCounts table (e ∷ [])
+    pub counts-of-one : {m : ℕ} → m ≡ count (λ b. not (sound table b)) (ts ∷ []) → ofCounts (record { positive = c .positive; zero = c .zero; negative = c .negative; unsound = m }) ≡ blockCounts table (ts ∷ [])
     counts-of-one u = to-list (record {
       positive = alone (isPositive table) (h .positive);
       zero = alone (isZero table) (h .zero);
@@ -210,18 +199,49 @@ module _ (table : List ℤ) where
       unsound = u;
     })
 
-  module _ (es fs : List Element) {a b : SignCounts} (k : ofCounts a ≡ signCounts table es) (l : ofCounts b ≡ signCounts table fs) where
-    joined : (P : Tet ℕ → Bool) {m n : ℕ} → m ≡ count P (cutMesh es) → n ≡ count P (cutMesh fs) → m + n ≡ count P (cutMesh (es ++ fs))
-    unfolding cutMesh
+  -- no count is above a bound
+  pub record Bounded (m : ℕ) (c : SignCounts) : Type 0 where
+    pub positive : c .positive ≤ m
+    pub zero : c .zero ≤ m
+    pub negative : c .negative ≤ m
+    pub unsound : c .unsound ≤ m
+
+  pub one-bounded : (ts : List (Tet ℕ)) {r : SignCounts} → length ts ≤ 6 → ofCounts r ≡ blockCounts table (ts ∷ []) → Bounded 6 r
+  one-bounded ts few e =
+      let f = from-list e in
+      let bs = ts ∷ [] in
+      let all = ap length (append-nil ts) in
+      record {
+        positive = omega (arith, f .positive, count-most (isPositive table) (gather (λ b. b) bs));
+        zero = omega (arith, f .zero, count-most (isZero table) (gather (λ b. b) bs));
+        negative = omega (arith, f .negative, count-most (isNegative table) (gather (λ b. b) bs));
+        unsound = omega (arith, f .unsound, count-most (λ b. not (sound table b)) bs);
+      }
+
+  module _ {m : ℕ} {a b : SignCounts} (h : Bounded m a) (k : Bounded 6 b) where
+    pub sums-few : m + 6 ≤ 6144 → FewSums a b
+    sums-few l = record {
+      positive = omega (arith, h .positive, k .positive);
+      zero = omega (arith, h .zero, k .zero);
+      negative = omega (arith, h .negative, k .negative);
+      unsound = omega (arith, h .unsound, k .unsound);
+    }
+
+    pub sum-bounded : {r : SignCounts} → Summed a b r → Bounded (m + 6) r
+    sum-bounded s = record {
+      positive = omega (arith, s .positive, h .positive, k .positive);
+      zero = omega (arith, s .zero, h .zero, k .zero);
+      negative = omega (arith, s .negative, h .negative, k .negative);
+      unsound = omega (arith, s .unsound, h .unsound, k .unsound);
+    }
+
+  -- blocks and blocks behind them
+  module _ (bs cs : List (List (Tet ℕ))) {a b : SignCounts} (k : ofCounts a ≡ blockCounts table bs) (l : ofCounts b ≡ blockCounts table cs) where
+    joined : (P : Tet ℕ → Bool) {m n : ℕ} → m ≡ count P (gather (λ x. x) bs) → n ≡ count P (gather (λ x. x) cs) → m + n ≡ count P (gather (λ x. x) (bs ++ cs))
     joined P p q =
-        (λ i. p i + q i) ∙ sym (count-append P (cutMesh es) (cutMesh fs)) ∙ ap (count P) (sym (gather-append cut es fs))
+        (λ i. p i + q i) ∙ sym (count-append P (gather (λ x. x) bs) (gather (λ x. x) cs)) ∙ ap (count P) (sym (gather-append (λ x. x) bs cs))
 
-    joined-unsound : a .unsound + b .unsound ≡ count (λ e. not (sound table e)) (es ++ fs)
-    joined-unsound =
-        (λ i. from-list k .unsound i + from-list l .unsound i) ∙ sym (count-append (λ e. not (sound table e)) es fs)
-
-    -- the counts of both
-    pub counts-joined : {r : SignCounts} → Summed a b r → ofCounts r ≡ signCounts table (es ++ fs)
+    pub counts-joined : {r : SignCounts} → Summed a b r → ofCounts r ≡ blockCounts table (bs ++ cs)
     counts-joined s =
         let p = from-list k in
         let q = from-list l in
@@ -229,69 +249,30 @@ module _ (table : List ℤ) where
           positive = s .positive ∙ joined (isPositive table) (p .positive) (q .positive);
           zero = s .zero ∙ joined (isZero table) (p .zero) (q .zero);
           negative = s .negative ∙ joined (isNegative table) (p .negative) (q .negative);
-          unsound = s .unsound ∙ joined-unsound;
+          unsound = s .unsound ∙ (λ i. p .unsound i + q .unsound i) ∙ sym (count-append (λ x. not (sound table x)) bs cs);
         })
 
-    -- where there are few elements and tetrahedra, the sums are not great
-    pub sums-few : length (cutMesh (es ++ fs)) ≤ 6144 → length (es ++ fs) ≤ 6144 → FewSums a b
-    sums-few few-tets few =
-        let p = from-list k in
-        let q = from-list l in
-        let ts = cutMesh (es ++ fs) in
-        record {
-          positive = omega (arith, joined (isPositive table) (p .positive) (q .positive), count-most (isPositive table) ts);
-          zero = omega (arith, joined (isZero table) (p .zero) (q .zero), count-most (isZero table) ts);
-          negative = omega (arith, joined (isNegative table) (p .negative) (q .negative), count-most (isNegative table) ts);
-          unsound = omega (arith, joined-unsound, count-most (λ e. not (sound table e)) (es ++ fs));
-        }
+  -- ---- elements: the blocks of their cuts
 
--- ---- the vertex table: ROOM, then RANGE
+  all-blocks : (es : List Element) → gather (λ b. b) (map cut es) ≡ cutMesh es
+  unfolding cutMesh
+  all-blocks [] = refl
+  all-blocks (e ∷ es) = ap (λ ts. cut e ++ ts) (all-blocks es)
 
--- one of two tests refuses
-first-said : {A : Type 0} (b c : Bool) (x y : Refusal) {f : Refusal} (z : Verdict A)
-    → firstRefusal (cond b (judge.Refused x) judge.Done) (cond c (judge.Refused y) judge.Done) ≡ judge.Refused f → refused f ≡ refuseIf b x (refuseIf c y z)
-first-said true c x y z e = ap refused cc
-first-said false true x y z e = ap refused cc
-first-said false false x y z e = absurd (let w : _≡_ {A = ℕ} 0 1 = cc in omega arith)
+  unsound-blocks : (es : List Element) → count (λ b. not (sound table b)) (map cut es) ≡ count (λ e. not (sound table (cut e))) es
+  unsound-blocks [] = refl
+  unsound-blocks (e ∷ es) = ap (λ (n : ℕ). cond (not (sound table (cut e))) 1 0 + n) (unsound-blocks es)
 
--- none of two tests refuses
-none-said : (b c : Bool) (x y : Refusal) → firstRefusal (cond b (judge.Refused x) judge.Done) (cond c (judge.Refused y) judge.Done) ≡ judge.Done
-    → (b ≡ false) × (c ≡ false)
-none-said true c x y e = absurd (let z : _≡_ {A = ℕ} 0 1 = cc in omega arith)
-none-said false true x y e = absurd (let z : _≡_ {A = ℕ} 0 1 = cc in omega arith)
-none-said false false x y e = (refl, refl)
+  pub element-blocks : (es : List Element) → blockCounts table (map cut es) ≡ signCounts table es
+  unfolding blockCounts signCounts
+  element-blocks es =
+      λ i. count (isPositive table) (all-blocks es i) ∷ count (isZero table) (all-blocks es i) ∷ count (isNegative table) (all-blocks es i) ∷ unsound-blocks es i ∷ []
 
-module _ (table : List ℤ) (v : ℕ) (q : verticesAnswer table v ≡ judge.Done) where
-  said : (ltb (length table) (vertexWidth * v) ≡ false) × (ltb 0 (badPoint table v) ≡ false)
-  unfolding verticesAnswer roomAnswer rangeAnswer
-  said = none-said (ltb (length table) (vertexWidth * v)) (ltb 0 (badPoint table v)) (refuse Room 0) (refuse Range (badPoint table v)) q
-
-  -- an accepted vertex table is long enough, and no vertex is beyond the limits
-  pub vertices-long : vertexWidth * v ≤ length table
-  vertices-long = ltb-false (length table) (vertexWidth * v) (said .0)
-
-  pub vertices-inside : badPoint table v ≡ 0
-  vertices-inside = let h = ltb-false 0 (badPoint table v) (said .1) in omega arith
-
--- ---- the answer, by the tests on the way to it
-
-module _ {v n : ℕ} {t : List ℕ} {table : List ℤ} {r : SignAnswer} where
-  says : signVerdict r ≡ signsOf v n t table → SignDone v n t table r
-  says e = record { answer = ap (answerOf (0 ∷ 0 ∷ 0 ∷ 0 ∷ [])) e }
-
-  -- the table is refused
-  pub table-refused : {f : Refusal} → judged v n t ≡ refused f → r ≡ Refused f → SignDone v n t table r
-  unfolding signsOf
-  table-refused h e = says (rw (e, h))
-
-  module _ {es : List Element} (h : judged v n t ≡ accepted es) where
-    -- ROOM or RANGE of the vertex table
-    pub vertices-refused : {f : Refusal} → verticesAnswer table v ≡ judge.Refused f → r ≡ Refused f → SignDone v n t table r
-    unfolding signsOf verticesAnswer roomAnswer rangeAnswer
-    vertices-refused {f} q e = says (rw (e, h) (first-said (ltb (length table) (vertexWidth * v)) (ltb 0 (badPoint table v)) (refuse Room 0) (refuse Range (badPoint table v)) (accepted (signCounts table es)) q))
-
-    -- the four counts
-    pub all-counted : {c : SignCounts} → verticesAnswer table v ≡ judge.Done → ofCounts c ≡ signCounts table es → r ≡ Done c → SignDone v n t table r
-    unfolding signsOf
-    all-counted {c} q k e =
-        says (rw (e, h, le-ltb (length table) (vertexWidth * v) (vertices-long table v q), vertices-inside table v q) (ap accepted k))
+  -- the three signs together are all tetrahedra
+  pub counts-total : (es : List Element) (c : SignCounts) → ofCounts c ≡ signCounts table es → c .positive + c .zero + c .negative ≡ length (cutMesh es)
+  unfolding signCounts
+  counts-total es c e =
+      let p : c .positive ≡ count (isPositive table) (cutMesh es) = cc in
+      let z : c .zero ≡ count (isZero table) (cutMesh es) = cc in
+      let m : c .negative ≡ count (isNegative table) (cutMesh es) = cc in
+      omega (arith, counts-add (cutMesh es))

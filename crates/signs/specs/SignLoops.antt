@@ -1,56 +1,57 @@
--- Shapes that only the functions of the private module signs want; proofs/SiteLaws.antt says that an accepted table's vertices are sited, and
+-- Shapes that only the functions of the private module counting want; proofs/PartLaws.antt says that an accepted table's blocks are so, and
 -- proofs/SignLaws.antt what the counts have to do with the page's definitions.
 use mathlib.Core.Path.{_≡_}
-use mathlib.Core.Bool.{Bool, cond, _&&_}
+use mathlib.Core.Bool.{Bool, not, _&&_}
 use mathlib.Core.List.{List, [], _∷_}
-use Prim.Native.Nat.{ℕ, zero, suc, _+_, _*_, _≤_, _<_}
-use lib.Dec.{T, eqb, ltb, leb}
+use Prim.Native.Nat.{ℕ, zero, suc, _+_, _≤_, _<_}
+use lib.Dec.{T, eqb}
 use lib.IntN.{ℤ, pos, negsuc}
-use lib.ListN.{length}
-use Rattle.limits.specs.Limits.{vertexWidth}
-use Rattle.laws.specs.Words.{count, every}
-use Rattle.faults.specs.declared.Fault.the-variants.{Range}
-use Rattle.faults.specs.Refusals.{refuse}
+use lib.ListN.{length, take, drop, getD}
+use Rattle.limits.specs.Limits.{elementLimit, tetrahedronLimit}
+use Rattle.laws.specs.Words.{count, every, gather}
 use Rattle.volume.specs.Volume.{pointInRange, pointAt}
 use Rattle.solids.specs.Solids.{Vertex, Tet, ofTet}
-use Rattle.records.specs.Record.{usedOf, recordAt}
-use Rattle.judging.specs.declared.JudgeAnswer.{JudgeAnswer}
-use Rattle.judging.specs.declared.JudgeAnswer.the-variants.{Done, Refused}
-use Rattle.mesh.specs.declared.SignCounts.{SignCounts}
-use Rattle.mesh.specs.declared.signs.Sign.{Sign}
-use Rattle.mesh.specs.declared.signs.Sign.the-variants.{Positive, Zero, Negative}
-use Rattle.mesh.specs.declared.signs.Tally.{Tally}
-use Rattle.mesh.specs.AnswerLoops.{firstRefusal, roomAnswer}
-use Rattle.mesh.specs.Signs.{badPoint, isPositive, isZero, isNegative}
-use Rattle.mesh.specs.BlockLoops.{tetsIn}
+use Rattle.tets.specs.Tets.{keyed}
+use Rattle.signs.specs.declared.SignCounts.{SignCounts}
+use Rattle.signs.specs.declared.counting.Sign.{Sign}
+use Rattle.signs.specs.declared.counting.Sign.the-variants.{Positive, Zero, Negative}
+use Rattle.signs.specs.declared.counting.Tally.{Tally}
+use Rattle.signs.specs.Signs.{isPositive, isZero, isNegative, sound}
 
--- ---- a vertex table
+-- ---- blocks
 
--- RANGE with the number, from 1, of the first vertex beyond the limits; 0 says that there is none
-unfoldable pub rangeAnswer : ℕ → JudgeAnswer
-rangeAnswer k = cond (ltb 0 k) (Refused (refuse Range k)) Done
+-- tetrahedra parted into blocks of these sizes
+unfoldable pub parted : List (Tet Vertex) → List ℕ → List (List (Tet Vertex))
+parted ts [] = []
+parted ts (s ∷ ss) = take s ts ∷ parted (drop s ts) ss
 
--- ROOM, then RANGE
-unfoldable pub verticesAnswer : List ℤ → ℕ → JudgeAnswer
-verticesAnswer table n = firstRefusal (roomAnswer (length table) (vertexWidth * n)) (rangeAnswer (badPoint table n))
+-- the sum of the sizes
+abbrev pub total : List ℕ → ℕ
+total [] = 0
+total (s ∷ ss) = s + total ss
 
--- a vertex number, from 1, whose point stands in the table and is within the limits
-unfoldable pub sited : List ℤ → Vertex → Bool
-sited table v = ltb 0 v && (leb (vertexWidth * v) (length table) && pointInRange (pointAt table v))
+-- all four vertices of a tetrahedron are within the limits
+unfoldable pub rangedTet : List ℤ → Tet Vertex → Bool
+rangedTet table t = every (λ v. pointInRange (pointAt table v)) (ofTet t)
 
--- all four vertices of a tetrahedron are sited
-unfoldable pub sitedTet : List ℤ → Tet Vertex → Bool
-sitedTet table t = every (sited table) (ofTet t)
+-- at most six keys, of tetrahedra within the limits
+pub record RangedBlock (table : List ℤ) (block : List ℕ) : Type 0 where
+  pub few : length block ≤ 6
+  pub ranged : (j : ℕ) → j < length block → T (rangedTet table (keyed (getD block j 0)))
 
--- the first n keys, at most six, are of sited tetrahedra
-pub record SitedBlock (table : List ℤ) (keys : List ℕ) (n : ℕ) : Type 0 where
-  pub few : n ≤ 6
-  pub many : length (tetsIn keys n) ≡ n
-  pub sites : T (every (sitedTet table) (tetsIn keys n))
+-- n blocks, at most 1,024 and each of at most six, whose keys are there and are of tetrahedra within the limits
+pub record RangedBlocks (table : List ℤ) (keys sizes : List ℕ) (n : ℕ) : Type 0 where
+  pub few : n ≤ elementLimit
+  pub long : n ≤ length sizes
+  pub small : (k : ℕ) → k < n → getD sizes k 0 ≤ 6
+  pub room : total (take n sizes) ≤ length keys
+  pub ranged : (j : ℕ) → j < total (take n sizes) → T (rangedTet table (keyed (getD keys j 0)))
 
--- the corners of each of the first n records are sited
-pub record SitedTable (table : List ℤ) (t : List ℕ) (n : ℕ) : Type 0 where
-  pub sites : (k : ℕ) → k < n → T (every (sited table) (usedOf (recordAt t k)))
+-- positive, zero and negative tetrahedra of blocks, and unsound ones of these
+unfoldable pub blockCounts : List ℤ → List (List (Tet Vertex)) → List ℕ
+blockCounts table bs =
+    let ts = gather (λ b. b) bs in
+    count (isPositive table) ts ∷ count (isZero table) ts ∷ count (isNegative table) ts ∷ count (λ b. not (sound table b)) bs ∷ []
 
 -- ---- a sign
 
@@ -90,10 +91,10 @@ ofCounts c = c .positive ∷ c .zero ∷ c .negative ∷ c .unsound ∷ []
 
 -- no sum is above the greatest number of tetrahedra
 pub record FewSums (a b : SignCounts) : Type 0 where
-  pub positive : a .positive + b .positive ≤ 6144
-  pub zero : a .zero + b .zero ≤ 6144
-  pub negative : a .negative + b .negative ≤ 6144
-  pub unsound : a .unsound + b .unsound ≤ 6144
+  pub positive : a .positive + b .positive ≤ tetrahedronLimit
+  pub zero : a .zero + b .zero ≤ tetrahedronLimit
+  pub negative : a .negative + b .negative ≤ tetrahedronLimit
+  pub unsound : a .unsound + b .unsound ≤ tetrahedronLimit
 
 -- each count of the one and of the other, together
 pub record Summed (a b r : SignCounts) : Type 0 where

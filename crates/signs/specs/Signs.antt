@@ -2,21 +2,18 @@
 use mathlib.Core.Path.{_≡_}
 use mathlib.Core.Bool.{Bool, true, false, not}
 use mathlib.Core.List.{List, [], _∷_}
-use Prim.Native.Nat.{ℕ, _+_, _*_}
-use lib.Dec.{eqb, ltb, T}
+use Prim.Native.Nat.{ℕ}
+use lib.Dec.{eqb}
 use lib.IntN.{ℤ, pos, natAbs}
-use lib.ListN.{length}
 use lib.Signed.{ltZ}
-use Rattle.limits.specs.Limits.{vertexWidth}
 use Rattle.laws.specs.Words.{count, every}
-use Rattle.laws.specs.Searches.{least}
-use Rattle.faults.specs.declared.Fault.the-variants.{Room, Range}
-use Rattle.faults.specs.Refusals.{Verdict, accepted, refused, refuse, refuseIf, andThen, answerOf}
-use Rattle.volume.specs.Volume.{pointInRange, pointAt, sixfoldAt}
+use Rattle.faults.specs.Refusals.{Verdict, accepted, refused, andThen, answerOf}
+use Rattle.volume.specs.Volume.{sixfoldAt}
+use Rattle.vertices.specs.Vertices.{verticesJudged}
 use Rattle.solids.specs.Solids.{Vertex, Tet, tet, Element}
 use Rattle.solids.specs.Cut.{cut, cutMesh}
-use Rattle.mesh.specs.declared.SignAnswer.{SignAnswer}
-use Rattle.mesh.specs.declared.SignAnswer.the-variants.{Done, Refused}
+use Rattle.signs.specs.declared.SignAnswer.{SignAnswer}
+use Rattle.signs.specs.declared.SignAnswer.the-variants.{Done, Refused}
 use Rattle.judging.specs.Judge.{judged}
 
 -- the sixfold volume of a tetrahedron of the cut, its vertices taken from the vertex table
@@ -33,9 +30,9 @@ isZero table t = eqb (natAbs (volumeIn table t)) 0
 unfoldable pub isNegative : List ℤ → Tet Vertex → Bool
 isNegative table t = ltZ (volumeIn table t) (pos 0)
 
--- an element is sound when all its tetrahedra are positive
-unfoldable pub sound : List ℤ → Element → Bool
-sound table e = every (isPositive table) (cut e)
+-- an element with these tetrahedra is sound when all of them are positive
+unfoldable pub sound : List ℤ → List (Tet Vertex) → Bool
+sound table ts = every (isPositive table) ts
 
 -- positive, zero and negative tetrahedra of the cut, and unsound elements
 unfoldable pub signCounts : List ℤ → List Element → List ℕ
@@ -43,20 +40,15 @@ signCounts table es =
     count (isPositive table) (cutMesh es)
     ∷ count (isZero table) (cutMesh es)
     ∷ count (isNegative table) (cutMesh es)
-    ∷ count (λ e. not (sound table e)) es
+    ∷ count (λ e. not (sound table (cut e))) es
     ∷ []
-
--- the number, from 1, of the first of n vertices with a coordinate beyond the limits, or 0
-unfoldable pub badPoint : List ℤ → ℕ → ℕ
-badPoint table n = least (λ k. not (pointInRange (pointAt table (k + 1)))) n
 
 -- the four counts, or the first fault
 unfoldable pub signsOf : (vertexCount elementCount : ℕ) → List ℕ → List ℤ → Verdict (List ℕ)
 signsOf v n t table =
     andThen (judged v n t) λ es.
-    refuseIf (ltb (length table) (vertexWidth * v)) (refuse Room 0)
-    (let k = badPoint table v in refuseIf (ltb 0 k) (refuse Range k)
-    (accepted (signCounts table es)))
+    andThen (verticesJudged table v) λ points.
+    accepted (signCounts points es)
 
 -- the answer of the sign report as a verdict
 abbrev pub signVerdict : SignAnswer → Verdict (List ℕ)

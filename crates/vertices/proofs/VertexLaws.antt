@@ -1,7 +1,7 @@
 -- A vertex table by its two tests: refused for its room, refused for a vertex, or passed; and what a passed one is.
 -- Assumes nothing.
 use mathlib.Core.Path.{_≡_, refl, sym, ap, _∙_}
-use mathlib.Core.Bool.{Bool, true, false, not, cond}
+use mathlib.Core.Bool.{Bool, true, false, not}
 use mathlib.Core.List.{List}
 use Prim.Native.Nat.{ℕ, _+_, _*_, _-_, _/_, _≤_, _<_}
 use native.Mathlib.Omega.{arith}
@@ -10,14 +10,13 @@ use lib.IntN.{ℤ, pos}
 use lib.ListN.{length, List·getD-eq-default}
 use borrow.Author.Tests.{lt-ltb, le-ltb, ltb-false, not-false}
 use Rattle.limits.specs.Limits.{vertexWidth}
-use Rattle.laws.proofs.SearchLaws.{least-all}
+use Rattle.laws.proofs.SearchLaws.{least-all, least-none}
 use Rattle.faults.specs.declared.Fault.the-variants.{Room, Range}
 use Rattle.faults.specs.declared.Refusal.{Refusal}
-use Rattle.faults.specs.declared.Ruling.{Ruling}
 use Rattle.faults.specs.declared.Ruling.the-variants.{Passed, Refused}
 use Rattle.faults.specs.Refusals.{Verdict, accepted, refused, refuse, refuseIf, ruled}
 use Rattle.volume.specs.Volume.{pointInRange, pointAt}
-use Rattle.vertices.specs.Vertices.{badPoint, verticesJudged}
+use Rattle.vertices.specs.Vertices.{badPoint, verticesJudged, Ranged}
 
 -- a vertex far behind the table's end is of zeros
 pub behind-end : (table : List ℤ) (v : ℕ) → length table / 3 < v - 1 → record { x = pos 0; y = pos 0; z = pos 0 } ≡ pointAt table v
@@ -53,3 +52,38 @@ module _ (table : List ℤ) (n : ℕ) where
   pub each-ranged : badPoint table n ≡ 0 → (k : ℕ) → k < n → pointInRange (pointAt table (k + 1)) ≡ true
   unfolding badPoint
   each-ranged none k h = not-false _ (least-all (λ j. not (pointInRange (pointAt table (j + 1)))) n none k h)
+
+-- ---- what an accepted table is
+
+-- what comes after a test: where it is accepted, the test did not hold
+module _ (table : List ℤ) (n : ℕ) where
+  abbrev bad : ℕ
+  bad = badPoint table n
+
+  by-tests : (b c : Bool) → ltb (length table) (vertexWidth * n) ≡ b → ltb 0 bad ≡ c → {points : List ℤ}
+      → refuseIf b (refuse Room 0) (refuseIf c (refuse Range bad) (accepted table)) ≡ accepted points → (points ≡ table) × Ranged table n
+  by-tests true c p q e = absurd (let z : _≡_ {A = ℕ} 0 1 = cc in omega arith)
+  by-tests false true p q e = absurd (let z : _≡_ {A = ℕ} 0 1 = cc in omega arith)
+  by-tests false false p q e =
+      let none : bad ≡ 0 = let h = ltb-false 0 bad q in omega arith in
+      (cc, record { long = ltb-false (length table) (vertexWidth * n) p; each = each-ranged table n none })
+
+  pub accepted-ranged : {points : List ℤ} → verticesJudged table n ≡ accepted points → (points ≡ table) × Ranged table n
+  unfolding verticesJudged
+  accepted-ranged = by-tests (ltb (length table) (vertexWidth * n)) (ltb 0 bad) refl refl
+
+  -- a table of vertices within the limits is accepted
+  pub ranged-accepted : Ranged table n → verticesJudged table n ≡ accepted table
+  unfolding verticesJudged badPoint
+  ranged-accepted h =
+      let e : badPoint table n ≡ 0 = least-none (λ j. not (pointInRange (pointAt table (j + 1)))) n (λ k l. ap not (h .each k l)) in
+      rw (le-ltb (length table) (vertexWidth * n) (h .long), e)
+
+-- a ruling tells the verdict
+pub ruled-refused : {A : Type 0} (x : Verdict A) {f : Refusal} → ruled x ≡ Refused f → x ≡ refused f
+ruled-refused (accepted a) e = absurd (let z : _≡_ {A = ℕ} 0 1 = cc in omega arith)
+ruled-refused (refused r) e = ap refused cc
+
+pub ruled-passed : {A : Type 0} (x : Verdict A) → ruled x ≡ Passed → (a : A) × (x ≡ accepted a)
+ruled-passed (accepted a) e = (a, refl)
+ruled-passed (refused r) e = absurd (let z : _≡_ {A = ℕ} 0 1 = cc in omega arith)

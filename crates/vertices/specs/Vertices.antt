@@ -1,7 +1,8 @@
 -- The vertex table: ROOM for three numbers a vertex, then RANGE with the first vertex beyond the limits.
-use mathlib.Core.Bool.{not}
+use mathlib.Core.Path.{_≡_}
+use mathlib.Core.Bool.{true, not}
 use mathlib.Core.List.{List}
-use Prim.Native.Nat.{ℕ, _+_, _*_}
+use Prim.Native.Nat.{ℕ, _+_, _*_, _≤_, _<_}
 use lib.Dec.{ltb}
 use lib.IntN.{ℤ}
 use lib.ListN.{length}
@@ -21,3 +22,8 @@ verticesJudged table n =
     refuseIf (ltb (length table) (vertexWidth * n)) (refuse Room 0)
     (let k = badPoint table n in refuseIf (ltb 0 k) (refuse Range k)
     (accepted table))
+
+-- n vertices stand in the table, and each is within the limits
+pub record Ranged (table : List ℤ) (n : ℕ) : Type 0 where
+  pub long : vertexWidth * n ≤ length table
+  pub each : (k : ℕ) → k < n → pointInRange (pointAt table (k + 1)) ≡ true

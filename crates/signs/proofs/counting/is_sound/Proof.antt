@@ -1,8 +1,8 @@
 -- None is zero and none is negative.
 -- Assumes nothing.
 use borrow.Author.Tests.{eq-eqb, ne-eqb}
-use Rattle.mesh.proofs.signs.is_sound.Statement.{statement}
-use Rattle.mesh.proofs.signs.is_sound.Tie as tie
+use Rattle.signs.proofs.counting.is_sound.Statement.{statement}
+use Rattle.signs.proofs.counting.is_sound.Tie as tie
 
 returns : tie.Need-returns
 returns c = rw (eq-eqb _ 0 (c .before .if1 .taken))

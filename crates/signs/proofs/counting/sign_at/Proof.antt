@@ -3,9 +3,9 @@
 use mathlib.Core.Path.{ap, _∙_}
 use mir.Facts.{toZ-ofZ}
 use borrow.Author.Needs.{needs}
-use Rattle.mesh.specs.SignLoops.{signOf}
-use Rattle.mesh.proofs.signs.sign_at.Statement.{statement}
-use Rattle.mesh.proofs.signs.sign_at.Tie as tie
+use Rattle.signs.specs.SignLoops.{signOf}
+use Rattle.signs.proofs.counting.sign_at.Statement.{statement}
+use Rattle.signs.proofs.counting.sign_at.Tie as tie
 
 volume-at-requires : tie.Need-volume-at-requires
 volume-at-requires c κs = search needs

@@ -4,12 +4,12 @@ use mathlib.Core.Path.{_≡_, refl, sym, _∙_, subst}
 use mathlib.Core.Bool.{true, false}
 use lib.Dec.{T}
 use mir.Facts.{toZ-ofZ}
-use Rattle.mesh.specs.declared.signs.Sign.{Sign}
-use Rattle.mesh.specs.declared.signs.Sign.the-variants.{Positive, Zero, Negative}
-use Rattle.mesh.specs.SignLoops.{signOf}
-use Rattle.mesh.proofs.SignLaws.{isPlus, isMinus, plus-sign, minus-sign}
-use Rattle.mesh.proofs.signs.sign_of.Statement.{statement}
-use Rattle.mesh.proofs.signs.sign_of.Tie as tie
+use Rattle.signs.specs.declared.counting.Sign.{Sign}
+use Rattle.signs.specs.declared.counting.Sign.the-variants.{Positive, Zero, Negative}
+use Rattle.signs.specs.SignLoops.{signOf}
+use Rattle.signs.proofs.SignLaws.{isPlus, isMinus, plus-sign, minus-sign}
+use Rattle.signs.proofs.counting.sign_of.Statement.{statement}
+use Rattle.signs.proofs.counting.sign_of.Tie as tie
 
 -- a sign, by what it is and what it is not
 only-plus : (s : Sign) → isPlus s ≡ true → Positive ≡ s

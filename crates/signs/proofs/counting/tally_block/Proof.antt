@@ -1,95 +1,99 @@
 -- The loop keeps the counts of the tetrahedra before k.
 -- Assumes nothing.
 use mathlib.Core.Path.{_≡_, sym, ap, _∙_, subst}
-use mathlib.Core.List.{List, map}
-use Prim.Native.Nat.{ℕ, _+_, _-_, _<_}
+use mathlib.Core.List.{List, [], _∷_, _++_, map, map-append}
+use Prim.Native.Nat.{ℕ, _+_, _-_, _≤_, _<_}
 use native.Mathlib.Numerals.{add-one}
 use native.Mathlib.Omega.{arith}
 use borrow.Author.Needs.{needs}
 use denote.Ref.{now}
 use lib.Dec.{T}
 use lib.IntN.{ℤ}
-use lib.ListN.{take, getD}
-use Rattle.mesh.specs.declared.signs.Sign.{Sign}
-use Rattle.mesh.specs.declared.signs.Tally.{Tally}
-use Rattle.mesh.specs.Signs.{volumeIn}
-use Rattle.mesh.specs.BlockLoops.{keyed, tetsIn}
-use Rattle.mesh.specs.SignLoops.{sitedTet, signOf, withSign, Few, Tallied}
-use Rattle.mesh.proofs.SignLaws.{tallied-none, tallied-next, tallied-most}
-use Rattle.mesh.proofs.BlockWalks.{Walk, walk-start, walk-next, tets-next, tets-passed, site-at}
-use Rattle.mesh.proofs.signs.tally_block.Statement.{statement}
-use Rattle.mesh.proofs.signs.tally_block.Tie as tie
+use lib.ListN.{length, take, getD, length-map}
+use lib.Seq.{take-suc, take-all, length-take-le}
+use Rattle.solids.specs.Solids.{Tet}
+use Rattle.tets.specs.Tets.{keyed}
+use Rattle.signs.specs.declared.counting.Sign.{Sign}
+use Rattle.signs.specs.declared.counting.Tally.{Tally}
+use Rattle.signs.specs.Signs.{volumeIn}
+use Rattle.signs.specs.SignLoops.{rangedTet, RangedBlock, signOf, withSign, Few, Tallied}
+use Rattle.signs.proofs.SignLaws.{tallied-none, tallied-next, tallied-most}
+use Rattle.signs.proofs.counting.tally_block.Statement.{statement}
+use Rattle.signs.proofs.counting.tally_block.Tie as tie
 
-record Kept (table : List ℤ) (n : ℕ) (keys : List ℕ) (c : Tally) (k : ℕ) : Type 0 where
-  walk : Walk table n keys k
-  same : Tallied table (map keyed (take k keys)) c
+record Kept (table : List ℤ) (block : List ℕ) (c : Tally) (k : ℕ) : Type 0 where
+  block-ranged : RangedBlock table block
+  up : k ≤ length block
+  same : Tallied table (map keyed (take k block)) c
 
-module _ {table : List ℤ} {n : ℕ} {keys : List ℕ} {c : Tally} {k : ℕ} (h : Kept table n keys c k) (l : k < n) where
+module _ {table : List ℤ} {block : List ℕ} {c : Tally} {k : ℕ} (h : Kept table block c k) (l : k < length block) where
   small : Few c
   small =
       let m = tallied-most table (h .same) in
-      let e = tets-passed (h .walk) in
-      let w = h .walk in
+      let e = length-map (take k block) keyed ∙ length-take-le k block (h .up) in
+      let few = h .block-ranged .few in
       record { positive = omega (arith, m .positive); zero = omega (arith, m .zero); negative = omega (arith, m .negative) }
 
-  step : {s : Sign} {r : Tally} → s ≡ signOf (volumeIn table (keyed (getD keys k 0))) → r ≡ withSign s c → Kept table n keys r (k + 1)
-  step {r} p q =
-      let t = keyed (getD keys k 0) in
-      let w = h .walk in
-      record {
-        walk = walk-next w l;
-        same =
-            rw (q ∙ ap (λ s. withSign s c) p, add-one k, tets-next keys k (omega (arith, w .long)))
-            (tallied-next table (h .same) t);
-      }
+  here : {u : Tet ℕ} → u ≡ keyed (getD block k 0) → T (rangedTet table u)
+  here e = subst (λ u. T (rangedTet table u)) (sym e) (h .block-ranged .ranged k l)
+
+  next : map keyed (take (k + 1) block) ≡ map keyed (take k block) ++ (keyed (getD block k 0) ∷ [])
+  next =
+      ap (λ (i : ℕ). map keyed (take i block)) (add-one k) ∙ ap (map keyed) (take-suc block k 0 l) ∙ map-append keyed (take k block) (getD block k 0 ∷ [])
+
+  step : {u : Tet ℕ} {s : Sign} {r : Tally} → u ≡ keyed (getD block k 0) → s ≡ signOf (volumeIn table u) → r ≡ withSign s c → Kept table block r (k + 1)
+  step {s} {r} q p e = record {
+    block-ranged = h .block-ranged;
+    up = omega arith;
+    same =
+        rw (e ∙ ap (λ x. withSign x c) (p ∙ ap (λ u. signOf (volumeIn table u)) q), next)
+        (tallied-next table (h .same) (keyed (getD block k 0)));
+  }
+
+end : {table : List ℤ} {block : List ℕ} {c : Tally} {k : ℕ} → Kept table block c k → length block ≤ k → Tallied table (map keyed block) c
+end {table} {block} {c} {k} h l = subst (λ (x : List ℕ). Tallied table (map keyed x) c) (take-all k block l) (h .same)
 
 abbrev Inv-loop : tie.InvT-loop
-Inv-loop keys n vertices tally₀ k₀ tally k = Kept vertices n keys tally k
+Inv-loop block vertices tally₀ k₀ tally k = Kept vertices block tally k
 
 abbrev μ-loop : tie.MeasureT-loop
-μ-loop keys n vertices tally₀ k₀ tally k = n - k
+μ-loop block vertices tally₀ k₀ tally k = lib.ListN.length block - k
 
 loop-holds : tie.Need-loop-holds Inv-loop μ-loop
 loop-holds c = record {
-  walk = walk-start (now (c .args .keys)) (c .args .n) (c .pre);
-  same = tallied-none (now (c .args .vertices));
+  block-ranged = c .before .pre;
+  up = omega arith;
+  same = tallied-none (now (c .before .args .vertices));
 }
 
 mul-key : tie.Need-mul-key Inv-loop μ-loop
-mul-key c = omega (arith, c .before .loop .inv .walk .few)
+mul-key c = search needs
 
-element-copy-out-key : tie.Need-element-copy-out-key Inv-loop μ-loop
-element-copy-out-key c = omega (arith, c .before .loop .inv .walk .few)
+shared-slice-read-key : tie.Need-shared-slice-read-key Inv-loop μ-loop
+shared-slice-read-key c = search needs
 
 tet-of-requires : tie.Need-tet-of-requires Inv-loop μ-loop
 tet-of-requires c κs = search needs
 
 sign-at-requires : tie.Need-sign-at-requires Inv-loop μ-loop
-sign-at-requires c κs =
-    subst (λ t. T (sitedTet (now (c .before .before .before .before .args .vertices)) t)) (sym (c .tet-of .ensures))
-    (site-at (c .before .before .before .loop .inv .walk) (c .before .before .loop-test .taken))
+sign-at-requires c κs = here (c .before .before .before .loop .inv) (c .before .before .loop-test .taken) (c .tet-of .ensures)
 
 with-sign-requires : tie.Need-with-sign-requires Inv-loop μ-loop
 with-sign-requires c κs = small (c .before .before .before .before .loop .inv) (c .before .before .before .loop-test .taken)
 
 add-k : tie.Need-add-k Inv-loop μ-loop
-add-k c = omega (arith, c .before .before .before .before .before .loop .inv .walk .few)
+add-k c = omega (arith, c .before .before .before .before .before .loop .inv .block-ranged .few)
 
 loop-less : tie.Need-loop-less Inv-loop μ-loop
 loop-less c = omega arith
 
 loop-again : tie.Need-loop-again Inv-loop μ-loop
 loop-again c =
-    let table = now (c .before .before .before .before .before .before .args .vertices) in
     step (c .before .before .before .before .before .loop .inv) (c .before .before .before .before .loop-test .taken)
-    (c .before .sign-at .ensures ∙ ap (λ t. signOf (volumeIn table t)) (c .before .before .tet-of .ensures)) (c .with-sign .ensures)
+    (c .before .before .tet-of .ensures) (c .before .sign-at .ensures) (c .with-sign .ensures)
 
 returns : tie.Need-returns Inv-loop μ-loop
-unfolding tetsIn
-returns c =
-    let h = c .before .loop .inv in
-    let e : c .before .loop .k ≡ c .before .before .args .n = omega (arith, h .walk .up) in
-    rw (← e) (h .same)
+returns c = end (c .before .loop .inv) (c .loop-test .left)
 
 pub tally-block-spec : {M : Type 1} → statement M
 tally-block-spec =
@@ -99,7 +103,7 @@ tally-block-spec =
     μ-loop
     loop-holds
     mul-key
-    element-copy-out-key
+    shared-slice-read-key
     tet-of-requires
     sign-at-requires
     with-sign-requires

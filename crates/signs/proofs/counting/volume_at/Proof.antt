@@ -5,29 +5,49 @@ use denote.Ref.{now}
 use mir.Syntax.{w64}
 use mir.Facts.{toZ-ofZ}
 use borrow.Author.Needs.{needs}
-use Rattle.mesh.proofs.SiteLaws.{Sites, to-sites}
-use Rattle.mesh.proofs.VolumeLaws.{volumeFrom, never-refused, volume-done}
 use Rattle.volume.specs.declared.VolumeAnswer.the-variants.{Done}
-use Rattle.mesh.specs.Signs.{volumeIn}
-use Rattle.mesh.specs.BlockLoops.{tetOf}
-use Rattle.mesh.proofs.signs.volume_at.Statement.{statement}
-use Rattle.mesh.proofs.signs.volume_at.Tie as tie
+use Rattle.tets.specs.Tets.{tetOf}
+use Rattle.signs.specs.Signs.{volumeIn}
+use Rattle.signs.proofs.VolumeLaws.{volumeFrom, never-refused, volume-done}
+use Rattle.signs.proofs.counting.volume_at.Statement.{statement}
+use Rattle.signs.proofs.counting.volume_at.Tie as tie
 
--- the four vertices stand in the table
-sites : (s : tie.Start) → Sites (now (s .args .vertices)) (s .args .t .0 .0) (s .args .t .1 .0) (s .args .t .2 .0) (s .args .t .3 .0)
-sites s = to-sites (now (s .args .vertices)) (s .args .t .0 .0) (s .args .t .1 .0) (s .args .t .2 .0) (s .args .t .3 .0) (s .pre)
+-- the start, from behind each point
+abbrev from-a : tie.After-point-at → tie.Start
+from-a c = c .before .before
+
+abbrev from-b : tie.After-point-at2 → tie.Start
+from-b c = from-a (c .before .before)
+
+abbrev from-c : tie.After-point-at3 → tie.Start
+from-c c = from-b (c .before .before)
+
+abbrev from-d : tie.After-point-at4 → tie.Start
+from-d c = from-c (c .before .before)
+
+cast-point-at : tie.Need-cast-point-at
+cast-point-at c = search needs
 
 point-at-requires : tie.Need-point-at-requires
-point-at-requires c κs = sites c .at-a .low
+point-at-requires c κs = search needs
+
+cast-point-at-2 : tie.Need-cast-point-at-2
+cast-point-at-2 c = search needs
 
 point-at-requires-2 : tie.Need-point-at-requires-2
-point-at-requires-2 c κs = sites (c .before) .at-b .low
+point-at-requires-2 c κs = search needs
+
+cast-point-at-3 : tie.Need-cast-point-at-3
+cast-point-at-3 c = search needs
 
 point-at-requires-3 : tie.Need-point-at-requires-3
-point-at-requires-3 c κs = sites (c .before .before) .at-c .low
+point-at-requires-3 c κs = search needs
+
+cast-point-at-4 : tie.Need-cast-point-at-4
+cast-point-at-4 c = search needs
 
 point-at-requires-4 : tie.Need-point-at-requires-4
-point-at-requires-4 c κs = sites (c .before .before .before) .at-d .low
+point-at-requires-4 c κs = search needs
 
 sixfold-volume-requires : tie.Need-sixfold-volume-requires
 sixfold-volume-requires c κs = search needs
@@ -39,10 +59,14 @@ enum-told : tie.Need-enum-told
 enum-told c = search needs
 
 -- what the answer is
-done : (c : tie.After-sixfold-volume) → c .sixfold-volume .result ≡ Done (volumeIn (now (c .before .before .before .before .before .args .vertices)) (tetOf (c .before .before .before .before .before .args .t)))
+done : (c : tie.After-sixfold-volume) → c .sixfold-volume .result ≡ Done (volumeIn (now (from-d (c .before) .args .vertices)) (tetOf (from-d (c .before) .args .t)))
 done c =
-    let s = c .before .before .before .before .before in
-    volume-done (now (s .args .vertices)) (s .args .t) (sites s) (c .before .before .before .before .point-at .ensures) (c .before .before .before .point-at2 .ensures) (c .before .before .point-at3 .ensures) (c .before .point-at4 .ensures) (c .sixfold-volume .ensures)
+    let d = c .before in
+    let third = d .before .before in
+    let second = third .before .before in
+    let first = second .before .before in
+    let s = from-d d in
+    volume-done (now (s .args .vertices)) (s .args .t) (s .pre) (first .point-at .ensures) (second .point-at2 .ensures) (third .point-at3 .ensures) (d .point-at4 .ensures) (c .sixfold-volume .ensures)
 
 returns : tie.Need-returns
 returns c =
@@ -56,9 +80,13 @@ pub volume-at-spec : {M : Type 1} → statement M
 volume-at-spec =
     tie.close
     (tie.spec
+    cast-point-at
     point-at-requires
+    cast-point-at-2
     point-at-requires-2
+    cast-point-at-3
     point-at-requires-3
+    cast-point-at-4
     point-at-requires-4
     sixfold-volume-requires
     enum-known-z

@@ -1,8 +1,8 @@
 -- The count of the sign grows by one.
 -- Assumes nothing.
 use borrow.Author.Needs.{needs}
-use Rattle.mesh.proofs.signs.with_sign.Statement.{statement}
-use Rattle.mesh.proofs.signs.with_sign.Tie as tie
+use Rattle.signs.proofs.counting.with_sign.Statement.{statement}
+use Rattle.signs.proofs.counting.with_sign.Tie as tie
 
 enum-told : tie.Need-enum-told
 enum-told c = search needs
