@@ -7,7 +7,7 @@ mod told;
 use converting::convert;
 use judging::judge_mesh;
 use mesh::cut_mesh;
-use mesh::sign_report;
+use signs::sign_report;
 use text::read_mesh;
 use writing::write_element;
 use writing::write_end;
