@@ -8,7 +8,7 @@ use Rattle.laws.specs.Lent.{laid}
 use Rattle.faults.specs.Refusals.{Verdict, recordsOf}
 use Rattle.judging.specs.Judge.{judged}
 use Rattle.mesh.specs.Cutting.{cutOf, flat}
-use Rattle.mesh.specs.Signs.{signsOf}
+use Rattle.signs.specs.Signs.{signsOf}
 use Rattle.format.specs.File.{fileVerdict}
 use Rattle.text.specs.Reading.{roomsOf}
 use Rattle.format.specs.Records.{storedVertices, storedElements}

@@ -8,7 +8,7 @@ use converting::convert;
 use judging::judge_mesh;
 use limits::ELEMENT_WIDTH;
 use mesh::cut_mesh;
-use mesh::sign_report;
+use signs::sign_report;
 use text::read_mesh;
 use writing::write_element;
 use writing::write_end;

@@ -1,21 +1,4 @@
--- What is proved of cutting and of the sign report.
-pub mod KeyLaws
-pub mod EntryLaws
-pub mod InsertLaws
-pub mod LowestLaws
-pub mod FaceLaws
-pub mod ChoiceLaws
-pub mod BlockLaws
-pub mod FanLaws
-pub mod RowTetLaws
-pub mod RowBounds
-pub mod RecordCutLaws
-pub mod CornerLaws
+-- What is proved of cutting.
 pub mod StoreLaws
-pub mod MeshCutLaws
+pub mod CutLaws
 pub mod Theorems
-pub mod SiteLaws
-pub mod VolumeLaws
-pub mod BlockWalks
-pub mod SignLaws
-pub mod SignedLaws

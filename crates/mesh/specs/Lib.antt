@@ -1,7 +1,3 @@
--- The page's orders of cutting and of the sign report.
-pub mod AnswerLoops
+-- The page's order of cutting.
 pub mod Cutting
-pub mod CutLoops
-pub mod Signs
-pub mod BlockLoops
-pub mod SignLoops
+pub mod StoreLoops

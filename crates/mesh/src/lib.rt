@@ -1,14 +1,12 @@
-// Element tables: cut, and counted by sign.
+// Element tables, cut into tetrahedra.
 ghost use Rattle.mesh.specs.Cutting.{CutDone};
-ghost use Rattle.mesh.specs.Signs.{SignDone};
+use blocks::BlocksAnswer;
+use blocks::cut_blocks;
 use faults::Refusal;
-use judging::JudgeAnswer;
-use judging::judge_mesh;
+use limits::ELEMENT_LIMIT;
+use limits::TETRAHEDRON_LIMIT;
 
-mod answers;
-mod blocks;
-mod cutting;
-mod signs;
+mod storing;
 
 // What an accepted cut reports.
 pub struct CutCounts {
@@ -21,20 +19,6 @@ pub enum CutAnswer {
     Refused(Refusal),
 }
 
-// What an accepted sign report counts.
-pub struct SignCounts {
-    pub positive: usize,
-    pub zero: usize,
-    pub negative: usize,
-    pub unsound: usize,
-}
-
-// What a sign report answers.
-pub enum SignAnswer {
-    Done(SignCounts),
-    Refused(Refusal),
-}
-
 // Cuts a table into tetrahedra: judges it, then the output's room; a refusal writes nothing.
 pub fn cut_mesh(
     vertex_count: usize,
@@ -44,33 +28,10 @@ pub fn cut_mesh(
 ) -> CutAnswer
     ensures { λ r. ⌜ CutDone «vertex_count» «element_count» (now (elements .entry)) (now (tetrahedra .entry)) r (now (tetrahedra .exit)) ⌝ }
 {
-    let judged = judge_mesh(vertex_count, element_count, elements);
-    let n = cutting::faultless(judged, element_count);
-    let count = cutting::count_all(elements, n);
-    let room = answers::judge_room(tetrahedra.len(), cutting::numbers_of(count));
-    let answer = answers::first_refusal(judged, room);
-    cutting::cut_all(elements, cutting::stored_under(answer, n), tetrahedra);
-    cutting::with_count(answer, count)
-}
-
-// Counts the signs of a cut: judges the table, then the vertex table, ROOM and RANGE.
-pub fn sign_report(
-    vertex_count: usize,
-    element_count: usize,
-    elements: &[u16],
-    vertices: &[i32],
-) -> SignAnswer
-    ensures { λ r. ⌜ SignDone «vertex_count» «element_count» (now (elements .entry)) (now (vertices .entry)) r ⌝ }
-{
-    match judge_mesh(vertex_count, element_count, elements) {
-        JudgeAnswer::Refused(refusal) => SignAnswer::Refused(refusal),
-        JudgeAnswer::Done => match signs::judge_vertices(vertices, vertex_count) {
-            JudgeAnswer::Refused(refusal) => SignAnswer::Refused(refusal),
-            JudgeAnswer::Done => SignAnswer::Done(signs::count_signs(
-                elements,
-                element_count,
-                vertices,
-            )),
-        },
+    let mut keys = [0u64; TETRAHEDRON_LIMIT];
+    let mut sizes = [0u8; ELEMENT_LIMIT];
+    match cut_blocks(vertex_count, element_count, elements, &mut keys, &mut sizes) {
+        BlocksAnswer::Refused(refusal) => CutAnswer::Refused(refusal),
+        BlocksAnswer::Done(count) => storing::store_cut(&keys, count, tetrahedra),
     }
 }

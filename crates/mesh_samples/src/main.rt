@@ -3,7 +3,7 @@ use faults::Refusal;
 use judging::JudgeAnswer;
 use libc::STDOUT_FILENO;
 use mesh::CutAnswer;
-use mesh::SignAnswer;
+use signs::SignAnswer;
 
 fn print_number(n: usize) {
     io::write_all(STDOUT_FILENO, b" ");
@@ -64,7 +64,7 @@ fn cut(name: &[u8], vertices: usize, count: usize, table: &[u16]) {
 
 fn signs(name: &[u8], count: usize, table: &[u16], vertices: &[i32]) {
     io::write_all(STDOUT_FILENO, name);
-    match mesh::sign_report(6, count, table, vertices) {
+    match signs::sign_report(6, count, table, vertices) {
         SignAnswer::Done(counts) => {
             io::write_all(STDOUT_FILENO, b" DONE");
             print_number(counts.positive);

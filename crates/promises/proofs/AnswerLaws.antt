@@ -22,7 +22,7 @@ use Rattle.judging.specs.declared.JudgeAnswer.the-variants as judge
 use Rattle.mesh.specs.declared.CutAnswer.the-variants as cut
 use Rattle.judging.specs.Judge.{judged, JudgeDone}
 use Rattle.mesh.specs.Cutting.{flat, cutOf, CutDone}
-use Rattle.mesh.specs.Signs.{isAccepted}
+use Rattle.signs.specs.Signs.{isAccepted}
 use Rattle.judging.proofs.Theorems.{accepted-elements}
 use Rattle.promises.specs.Tables.{tetrahedraIn}
 

@@ -5,7 +5,6 @@ pub mod RelistedRecords
 pub mod ReorderedTables
 pub mod CutOfCutTables
 pub mod SurfaceOfTables
-pub mod OneCut
 pub mod Theorems
 pub mod ReadBackNumbers
 pub mod ReadBackLines

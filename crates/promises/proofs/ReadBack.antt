@@ -33,10 +33,10 @@ use Rattle.volume.specs.Volume.{inRange, pointAt}
 use Rattle.volume.specs.declared.Point.{Point}
 use Rattle.records.specs.Record.{usedOf, recordFinding, recordAt}
 use Rattle.records.proofs.RecordLaws.{clean-faultless}
-use Rattle.mesh.specs.Signs.{signsOf, acceptedTables, signVerdict, SignDone}
-use Rattle.mesh.specs.declared.SignAnswer.{SignAnswer}
-use Rattle.mesh.specs.declared.SignAnswer.the-variants as sign
-use Rattle.mesh.specs.declared.SignCounts.{SignCounts}
+use Rattle.signs.specs.Signs.{signsOf, acceptedTables, signVerdict, SignDone}
+use Rattle.signs.specs.declared.SignAnswer.{SignAnswer}
+use Rattle.signs.specs.declared.SignAnswer.the-variants as sign
+use Rattle.signs.specs.declared.SignCounts.{SignCounts}
 use Rattle.format.specs.Number.{coordinateOf, numberOf}
 use Rattle.text.specs.Reading.{ReadDone}
 use Rattle.format.specs.declared.Spelt.the-variants.{Of}

@@ -23,8 +23,8 @@ use Rattle.volume.proofs.RangeLaws.{coordinates}
 use Rattle.records.specs.Record.{usedOf, recordFinding, recordAt}
 use Rattle.records.specs.WholeRecords.{isNumber}
 use Rattle.records.proofs.RecordLaws.{clean-faultless, faultless-clean}
-use Rattle.mesh.specs.Signs.{acceptedTables}
-use Rattle.mesh.proofs.SignedLaws.{sign-accepted}
+use Rattle.signs.specs.Signs.{acceptedTables}
+use Rattle.signs.proofs.SignedLaws.{sign-accepted}
 use Rattle.format.specs.File.{start}
 use Rattle.text.specs.Reading.{roomsOf, verdictOf, ReadDone}
 use Rattle.format.specs.declared.ReaderState.{ReaderState}

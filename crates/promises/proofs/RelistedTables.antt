@@ -10,12 +10,12 @@ use lib.Dec.{T, eqb, ltb, eqb→eq}
 use lib.IntN.{ℤ}
 use lib.ListN.{length, length-map}
 use borrow.Author.Tests.{eq-eqb, ltb-true, ltb-false}
-use Rattle.limits.specs.Limits.{elementLimit, tetrahedronWidth, vertexLimit, vertexWidth, elementWidth}
+use Rattle.limits.specs.Limits.{elementLimit, tetrahedronWidth, vertexLimit, elementWidth}
 use Rattle.laws.specs.Words.{count, every, some, among, distinct}
 use Rattle.laws.specs.Lent.{laid}
 use Rattle.laws.proofs.TestLaws.{and-left, and-right, and-both, or-cases, or-left, or-right}
 use Rattle.laws.proofs.SearchLaws.{least-cong, least-most}
-use Rattle.faults.specs.declared.Fault.the-variants.{Many, Room, Range}
+use Rattle.faults.specs.declared.Fault.the-variants.{Many, Room}
 use Rattle.faults.specs.declared.Finding.{Finding}
 use Rattle.faults.specs.declared.Refusal.{Refusal}
 use Rattle.faults.specs.Refusals.{Verdict, accepted, refused, refuse, refusePair, refuseIf, andThen, recordsOf, answerOf}
@@ -34,9 +34,10 @@ use Rattle.tables.specs.JudgedRecords.{isFault, faultIn, badRecord}
 use Rattle.judging.specs.Judge.{pairFits, misfit, badElement, judged, JudgeDone}
 use Rattle.judging.specs.declared.JudgeAnswer.{JudgeAnswer}
 use Rattle.mesh.specs.declared.CutAnswer.{CutAnswer}
-use Rattle.mesh.specs.declared.SignAnswer.{SignAnswer}
+use Rattle.signs.specs.declared.SignAnswer.{SignAnswer}
 use Rattle.mesh.specs.Cutting.{flat, cutOf, CutDone}
-use Rattle.mesh.specs.Signs.{isPositive, sound, signCounts, badPoint, signsOf, SignDone, isAccepted}
+use Rattle.vertices.specs.Vertices.{verticesJudged}
+use Rattle.signs.specs.Signs.{sound, signCounts, signsOf, SignDone, isAccepted}
 use Rattle.tables.proofs.CleanRecordLaws.{record-clean}
 use Rattle.judging.proofs.TableVerdictLaws.{judged-by-tests}
 use Rattle.judging.proofs.AcceptanceLaws.{clean-proper}
@@ -136,16 +137,20 @@ relists-cut {e} {x} a p =
 
 -- as many unsound elements, and the same four counts
 unsound-relisted : (table : List ℤ) {es xs : List Element} → Relisting es xs → T (every proper es)
-    → count (λ e. not (sound table e)) xs ≡ count (λ e. not (sound table e)) es
-unfolding sound
+    → count (λ e. not (sound table (cut e))) xs ≡ count (λ e. not (sound table (cut e))) es
 unsound-relisted table none p = refl
 unsound-relisted table {es = e ∷ es} (next a l) p =
-    ap₂ {C = ℕ} (λ (ts : List (Tet Vertex)) (k : ℕ). cond (not (every (isPositive table) ts)) 1 0 + k) (relists-cut a (and-left (proper e) (every proper es) p))
+    ap₂ {C = ℕ} (λ (ts : List (Tet Vertex)) (k : ℕ). cond (not (sound table ts)) 1 0 + k) (relists-cut a (and-left (proper e) (every proper es) p))
     (unsound-relisted table l (and-right (proper e) (every proper es) p))
 
 counts-relisted : (table : List ℤ) {es xs : List Element} → Relisting es xs → T (every proper es) → signCounts table xs ≡ signCounts table es
 unfolding signCounts
 counts-relisted table l p = rw (relisting-cut l p, unsound-relisted table l p)
+
+-- after one verdict, two ways that go on alike
+then-alike : {A B : Type 0} (x : Verdict A) (f g : A → Verdict B) → ((a : A) → f a ≡ g a) → andThen x f ≡ andThen x g
+then-alike (accepted a) f g h = h a
+then-alike (refused r) f g h = refl
 
 -- two tests of a table that are passed or refused alike, before what comes next
 alike : {A B : Type 0} (f : A → Verdict B) (b b′ : Bool) (r r′ : Refusal) (x x′ : Verdict A) → b′ ≡ b → (b ≡ true → r′ ≡ r)
@@ -276,10 +281,9 @@ module _ (v n : ℕ) where
     unfolding signsOf
     relisted-signs table =
         relisted-then
-        (λ es. refuseIf (ltb (length table) (vertexWidth * v)) (refuse Room 0)
-        (refuseIf (ltb 0 (badPoint table v)) (refuse Range (badPoint table v)) (accepted (signCounts table es))))
-        (λ p l. ap (λ (c : List ℕ). refuseIf (ltb (length table) (vertexWidth * v)) (refuse Room 0)
-        (refuseIf (ltb 0 (badPoint table v)) (refuse Range (badPoint table v)) (accepted c))) (counts-relisted table l p))
+        (λ es. andThen (verticesJudged table v) λ points. accepted (signCounts points es))
+        (λ p l. then-alike (verticesJudged table v) (λ points. accepted (signCounts points (firstElements t′ n))) (λ points. accepted (signCounts points (firstElements t n)))
+        (λ points. ap accepted (counts-relisted points l p)))
 
     -- accepted or refused alike
     pub relisted-verdict : andThen {B = List ℕ} (judged v n t′) (λ es. accepted []) ≡ andThen (judged v n t) (λ es. accepted [])

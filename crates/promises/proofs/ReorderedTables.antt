@@ -29,7 +29,7 @@ use Rattle.records.proofs.Theorems.{record-length, first-length, first-at, firs
 use Rattle.judging.specs.Judge.{judged}
 use Rattle.judging.specs.Acceptance.{Acceptable}
 use Rattle.mesh.specs.Cutting.{flat, cutOf}
-use Rattle.mesh.specs.Signs.{isAccepted}
+use Rattle.signs.specs.Signs.{isAccepted}
 use Rattle.judging.proofs.AcceptanceLaws.{clean-proper, acceptable-proper}
 use Rattle.judging.proofs.Theorems.{accepted-elements, accepted-acceptable, acceptable-accepted}
 use Rattle.promises.specs.Tables.{TableReordered, reordered, blocksInOrder}

@@ -31,14 +31,15 @@ use Rattle.judging.specs.declared.JudgeAnswer.the-variants as judge
 use Rattle.mesh.specs.declared.CutCounts.{CutCounts}
 use Rattle.mesh.specs.declared.CutAnswer.{CutAnswer}
 use Rattle.mesh.specs.declared.CutAnswer.the-variants as answer
-use Rattle.mesh.specs.declared.SignCounts.{SignCounts}
-use Rattle.mesh.specs.declared.SignAnswer.{SignAnswer}
-use Rattle.mesh.specs.declared.SignAnswer.the-variants as sign
+use Rattle.signs.specs.declared.SignCounts.{SignCounts}
+use Rattle.signs.specs.declared.SignAnswer.{SignAnswer}
+use Rattle.signs.specs.declared.SignAnswer.the-variants as sign
 use Rattle.judging.specs.Judge.{judged, JudgeDone}
 use Rattle.mesh.specs.Cutting.{flat, cutOf, CutDone}
-use Rattle.mesh.specs.Signs.{SignDone, isAccepted}
+use Rattle.signs.specs.Signs.{SignDone, isAccepted}
 use Rattle.judging.proofs.Theorems.{judge-unique, accepted-proper, accepted-surface}
-use Rattle.mesh.proofs.Theorems.{cut-unique, sign-unique}
+use Rattle.mesh.proofs.Theorems.{cut-unique}
+use Rattle.signs.proofs.Theorems.{sign-unique, one-cut}
 use Rattle.promises.specs.Tables.{RecordRelisted, TableRelisted, relistedRecord, relistedTable, TableReordered, reordered, blocksInOrder, asTable, BeginsWith, tetrahedraIn, SurfaceIsCut}
 use Rattle.promises.proofs.AnswerLaws as AnswerLaws
 use Rattle.promises.proofs.RelistedTables as RelistedTables
@@ -47,7 +48,6 @@ use Rattle.promises.proofs.ReorderedTables as ReorderedTables
 use Rattle.records.proofs.TetrahedronRecord.{isGood}
 use Rattle.promises.proofs.CutOfCutTables as CutOfCutTables
 use Rattle.promises.proofs.SurfaceOfTables as SurfaceOfTables
-use Rattle.promises.proofs.OneCut as OneCut
 
 -- ---- the output: a done answer counts the cut of the table's elements, and its tetrahedra stand in the lent memory
 
@@ -239,4 +239,4 @@ no-coordinate vertices vertices′ = cut-unique
 -- and the sign report, which does read coordinates, counts the tetrahedra of that one cut with every vertex table that it accepts
 pub signs-of-one-cut : (v n : ℕ) (t : List ℕ) (vertices : List ℤ) (c : SignCounts) → SignDone v n t vertices (sign.Done c)
     → c .positive + c .zero + c .negative ≡ length (cutMesh (firstElements t n))
-signs-of-one-cut = OneCut.one-cut
+signs-of-one-cut = one-cut

@@ -1,79 +1,80 @@
--- `mesh::cut_mesh` meets its contract: refused as it is judged, or as the output's room says, or cut; what is stored hangs on the first refusal.
+-- `mesh::cut_mesh` meets its contract: refused as it is judged, or what is stored of its blocks.
 -- Assumes nothing.
+use mathlib.Core.Path.{_≡_, refl, sym, ap, _∙_, subst}
+use mathlib.Core.List.{List}
+use Prim.Native.Nat.{ℕ, _≤_}
 use native.Mathlib.Omega.{arith}
 use borrow.Author.Needs.{needs}
-use Rattle.mesh.proofs.EntryLaws.{faultless-whole, both, stored-whole, stored-room, cut-done}
+use denote.Ref.{now}
+use lib.ListN.{length, replicate, length-replicate}
+use Rattle.blocks.specs.declared.BlocksAnswer.{BlocksAnswer}
+use Rattle.blocks.specs.declared.BlocksAnswer.the-variants as blocks
+use Rattle.blocks.specs.Blocks.{BlocksDone}
+use Rattle.mesh.proofs.CutLaws.{table-refused, keys-whole, keys-enough, table-cut}
 use Rattle.mesh.proofs.cut_mesh.Statement.{statement}
 use Rattle.mesh.proofs.cut_mesh.Tie as tie
 
-judge-mesh-requires : tie.Need-judge-mesh-requires
-judge-mesh-requires c κs = search needs
+-- the start, from behind the blocks
+abbrev start : tie.After-cut-blocks → tie.Start
+start c = c .before .before .before .before .before
 
-faultless-requires : tie.Need-faultless-requires
-faultless-requires c κs = search needs
+-- the keys and the sizes that the blocks left
+abbrev keys : tie.After-cut-blocks → List ℕ
+keys c = c .cut-blocks .last .1 .1 .1 .0
 
-count-all-requires : tie.Need-count-all-requires
-count-all-requires c κs =
-    let a = c .before .before .before .before .args in
-    let j = c .before .judge-mesh in
-    faultless-whole (a .vertex-count) (a .element-count) (a .elements .now) (j .result) (j .ensures) (c .faultless .ensures)
+abbrev sizes : tie.After-cut-blocks → List ℕ
+sizes c = c .cut-blocks .last .1 .1 .1 .1 .0
 
-numbers-of-requires : tie.Need-numbers-of-requires
-numbers-of-requires c κs =
-    let a = c .before .before .before .before .before .args in
-    let j = c .before .before .judge-mesh in
-    let whole = faultless-whole (a .vertex-count) (a .element-count) (a .elements .now) (j .result) (j .ensures) (c .before .faultless .ensures) in
-    omega (arith, c .count-all .ensures .few, whole .few)
+-- what the blocks are, where the answer is known
+abbrev Blocks : tie.After-cut-blocks → BlocksAnswer → Type 0
+Blocks c r =
+    let a = start c .args in
+    BlocksDone (a .vertex-count) (a .element-count) (now (a .elements)) (replicate 6144 0) (replicate 1024 0) r (keys c) (sizes c)
 
-judge-room-requires : tie.Need-judge-room-requires
-judge-room-requires c κs = search needs
+known : (c : tie.After-cut-blocks) {r : BlocksAnswer} → c .cut-blocks .result ≡ r → Blocks c r
+known c e = subst (Blocks c) e (c .cut-blocks .ensures)
 
-first-refusal-requires : tie.Need-first-refusal-requires
-first-refusal-requires c κs = search needs
+-- all keys of the limit are there
+enough : 6144 ≤ length {A = ℕ} (replicate 6144 0)
+enough = omega (arith, length-replicate {A = ℕ} 6144 0)
 
-stored-under-requires : tie.Need-stored-under-requires
-stored-under-requires c κs = search needs
+cut-blocks-requires : tie.Need-cut-blocks-requires
+cut-blocks-requires c κs = search needs
 
-cut-all-requires : tie.Need-cut-all-requires
-cut-all-requires c κs =
-    let a = c .before .before .before .before .before .before .before .before .before .before .args in
-    let j = c .before .before .before .before .before .before .before .judge-mesh in
-    let n = c .before .before .before .before .before .before .faultless in
-    let first = c .before .before .first-refusal in
-    rw (c .before .stored-under .ensures) (
-      stored-whole (a .elements .now) (n .result) (faultless-whole (a .vertex-count) (a .element-count) (a .elements .now) (j .result) (j .ensures) (n .ensures)) (first .result),
-      stored-room (a .elements .now) (n .result) (a .tetrahedra .now) (j .result) (first .result)
-          (both (a .elements .now) (n .result) (a .tetrahedra .now) (j .result) (c .before .before .before .before .before .count-all .ensures .count) (c .before .before .before .before .numbers-of .ensures) (c .before .before .before .judge-room .ensures) (first .ensures)),
-    )
+enum-known-refusal : tie.Need-enum-known-refusal
+enum-known-refusal c = search needs
 
-with-count-requires : tie.Need-with-count-requires
-with-count-requires c κs = search needs
+enum-known-count : tie.Need-enum-known-count
+enum-known-count c = search needs
+
+slice-aggregate-store-cut : tie.Need-slice-aggregate-store-cut
+slice-aggregate-store-cut c =
+    sym (length-replicate {A = ℕ} 6144 0) ∙ keys-whole (known (c .before .before .before .before) (c .before .before .count .given .1)) enough
+
+store-cut-requires : tie.Need-store-cut-requires
+store-cut-requires c κs = keys-enough (known (c .before .before .before .before .before) (c .before .before .before .count .given .1)) enough
+
+returns : tie.Need-returns
+returns c = table-refused (known (c .before .before .before) (c .before .refusal .given .1))
 
 same-length : tie.Need-same-length
 same-length c = search needs
 
-returns : tie.Need-returns
-returns c =
-    let a = c .before .before .before .before .before .before .before .before .before .before .before .before .before .before .args in
-    let j = c .before .before .before .before .before .before .before .before .before .before .before .judge-mesh in
-    let n = c .before .before .before .before .before .before .before .before .before .before .faultless in
-    let count = c .before .before .before .before .before .before .before .before .before .count-all .ensures .count in
-    cut-done (a .vertex-count) (a .element-count) (a .elements .now) (a .tetrahedra .now) (j .result) (j .ensures) (n .result) (n .ensures)
-    (both (a .elements .now) (n .result) (a .tetrahedra .now) (j .result) count (c .before .before .before .before .before .before .before .before .numbers-of .ensures) (c .before .before .before .before .before .before .before .judge-room .ensures) (c .before .before .before .before .before .before .first-refusal .ensures))
-    count (rw (← c .before .before .before .before .before .stored-under .ensures) (c .before .before .before .cut-all .ensures)) (c .with-count .ensures)
+returns-2 : tie.Need-returns-2
+returns-2 c =
+    let s = c .before .before in
+    let told = s .before .before .before .before in
+    table-cut (known (told .before .before) (told .count .given .1)) (s .store-cut .ensures)
 
 pub cut-mesh-spec : {M : Type 1} → statement M
 cut-mesh-spec =
     tie.close
     (tie.spec
-    judge-mesh-requires
-    faultless-requires
-    count-all-requires
-    numbers-of-requires
-    judge-room-requires
-    first-refusal-requires
-    stored-under-requires
-    cut-all-requires
-    with-count-requires
+    cut-blocks-requires
+    enum-known-refusal
+    enum-known-count
+    slice-aggregate-store-cut
+    store-cut-requires
+    returns
     same-length
-    returns)
+    returns-2)

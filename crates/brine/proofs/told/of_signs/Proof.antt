@@ -1,7 +1,7 @@
 -- `brine::told::of_signs` tells what the sign report answers. Assumes nothing.
 use mathlib.Core.Path.{refl, ap}
 use Rattle.faults.specs.Refusals.{answerOf}
-use Rattle.mesh.specs.Signs.{signVerdict}
+use Rattle.signs.specs.Signs.{signVerdict}
 use Rattle.brine.proofs.FrontLaws.{fewer}
 use borrow.Author.Needs.{needs}
 use Rattle.brine.proofs.told.of_signs.Statement.{statement}

@@ -1,0 +1,3 @@
+-- The page's order of the sign report.
+pub mod Signs
+pub mod SignLoops

@@ -1,0 +1,3 @@
+-- What is proved of tetrahedra and their keys.
+pub mod KeyLaws
+pub mod Theorems

@@ -1,0 +1,2 @@
+-- A tetrahedron and its key.
+pub mod Tets

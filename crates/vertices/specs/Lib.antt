@@ -1,0 +1,2 @@
+-- A vertex table, judged.
+pub mod Vertices
