@@ -16,7 +16,7 @@ use Rattle.solids.specs.Solids.{Edge, edge, Element, ends, elementEdges}
 use Rattle.solids.specs.Fit.{sameSet, hasEdge}
 use Rattle.solids.proofs.SetLaws.{Sub, among-first, among-later, among-cases, sub-every, every-sub, same-set, set-there, set-back}
 use Rattle.fit.specs.SetLoops.{otherThan}
-use Rattle.fit.proofs.EdgeLaws.{either}
+use Rattle.edges.proofs.EdgeLaws.{either}
 
 -- the other vertex is among the vertices, or is u
 other-in : (u : ℕ) (c : List ℕ) → T (among (otherThan u c) (u ∷ c))

@@ -13,7 +13,6 @@ use faces::Face;
 use solids::Solid;
 use solids::Vertex;
 
-mod edges;
 mod sets;
 
 // The common vertices of two elements are the two ends of an edge of both.

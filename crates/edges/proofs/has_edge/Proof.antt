@@ -1,4 +1,4 @@
--- `fit::edges::has_edge` meets its contract. The loop's invariant: no place before p holds u and is joined to one that holds v.
+-- `edges::has_edge` meets its contract. The loop's invariant: no place before p holds u and is joined to one that holds v.
 -- The measure is how many places are left. Assumes nothing.
 use Prim.Native.Nat.{_-_}
 use mathlib.Core.Path.{sym, ap, _∙_}
@@ -6,10 +6,10 @@ use borrow.Author.Needs.{needs}
 use denote.Ref.{now}
 use Rattle.laws.proofs.SearchLaws.{some, none}
 use Rattle.laws.proofs.PassLaws.{Failed, failed-next, failed-end}
-use Rattle.fit.specs.EdgeLoops.{startsAt}
-use Rattle.fit.proofs.EdgeLaws.{starts-start, edge-found}
-use Rattle.fit.proofs.edges.has_edge.Statement.{statement}
-use Rattle.fit.proofs.edges.has_edge.Tie as tie
+use Rattle.edges.specs.EdgeLoops.{startsAt}
+use Rattle.edges.proofs.EdgeLaws.{starts-start, edge-found}
+use Rattle.edges.proofs.has_edge.Statement.{statement}
+use Rattle.edges.proofs.has_edge.Tie as tie
 
 abbrev Inv-loop : tie.InvT-loop
 Inv-loop u v solid corners p₀ p = Failed (startsAt solid corners (u .0) (v .0)) 9 p

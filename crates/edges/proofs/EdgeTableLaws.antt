@@ -10,7 +10,7 @@ use lib.ListN.{getD}
 use Rattle.laws.proofs.TestLaws.{below, at-below}
 use Rattle.solids.specs.declared.Solid.{Solid}
 use Rattle.solids.specs.declared.Solid.the-variants.{Tetrahedron, Pyramid, Prism, Hexahedron}
-use Rattle.fit.specs.EdgeLoops.{joined, edgeRows, firstEdge}
+use Rattle.edges.specs.EdgeLoops.{joined, edgeRows, firstEdge}
 
 -- one test for each solid and each two places
 abbrev markRight : Solid → ℕ → ℕ → Bool

@@ -1,4 +1,4 @@
--- Edges by their places, as the private module edges looks them up; proofs/EdgeTableLaws.antt and proofs/EdgeLaws.antt say that they are the page's edges.
+-- Edges by their places, as the private functions look them up; proofs/EdgeTableLaws.antt and proofs/EdgeLaws.antt say that they are the page's edges.
 use mathlib.Core.Bool.{Bool, cond, not, _&&_}
 use mathlib.Core.List.{List, [], _∷_, map}
 use Prim.Native.Nat.{ℕ}

@@ -5,7 +5,7 @@ ghost use Prim.Native.Nat.{_<_};
 ghost use lib.ListN.{getD};
 ghost use Rattle.solids.specs.Solids.{element};
 ghost use Rattle.solids.specs.Fit.{hasEdge};
-ghost use Rattle.fit.specs.EdgeLoops.{joined, edgeRows, firstEdge, somePlace, endsAt, startsAt};
+ghost use Rattle.edges.specs.EdgeLoops.{joined, edgeRows, firstEdge, somePlace, endsAt, startsAt};
 use solids::Place;
 use solids::Solid;
 use solids::Vertex;

@@ -1,4 +1,4 @@
--- `fit::edges::ends_at` meets its contract: the vertex at the place is asked for first, and then the table of edges.
+-- `edges::ends_at` meets its contract: the vertex at the place is asked for first, and then the table of edges.
 -- Assumes nothing.
 use mathlib.Core.Path.{_≡_, sym, _∙_}
 use mathlib.Core.Bool.{Bool, false, _&&_}
@@ -9,9 +9,9 @@ use borrow.Author.Tests.{eq-eqb, ne-eqb}
 use denote.Ref.{now}
 use Rattle.solids.specs.declared.Solid.{Solid}
 use Rattle.solids.specs.Solids.{at}
-use Rattle.fit.specs.EdgeLoops.{joined, endsAt}
-use Rattle.fit.proofs.edges.ends_at.Statement.{statement}
-use Rattle.fit.proofs.edges.ends_at.Tie as tie
+use Rattle.edges.specs.EdgeLoops.{joined, endsAt}
+use Rattle.edges.proofs.ends_at.Statement.{statement}
+use Rattle.edges.proofs.ends_at.Tie as tie
 
 -- w is the vertex at the place q
 module _ (s : Solid) (vs : List ℕ) (p v q : ℕ) {w : ℕ} (this : w ≡ at vs q) where

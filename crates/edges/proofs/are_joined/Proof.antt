@@ -1,4 +1,4 @@
--- `fit::edges::are_joined` meets its contract: the entry of the two places.
+-- `edges::are_joined` meets its contract: the entry of the two places.
 -- Assumes nothing.
 use Prim.Native.Nat.{ℕ, _+_, _<_}
 use native.Mathlib.Omega.{arith}
@@ -8,10 +8,10 @@ use borrow.Author.Needs.{needs}
 use lib.Dec.{eqb}
 use lib.ListN.{getD}
 use Rattle.solids.specs.declared.Solid.{Solid}
-use Rattle.fit.specs.EdgeLoops.{joined, edgeRows, firstEdge}
-use Rattle.fit.proofs.EdgeTableLaws.{edge-mark, edge-inside}
-use Rattle.fit.proofs.edges.are_joined.Statement.{statement}
-use Rattle.fit.proofs.edges.are_joined.Tie as tie
+use Rattle.edges.specs.EdgeLoops.{joined, edgeRows, firstEdge}
+use Rattle.edges.proofs.EdgeTableLaws.{edge-mark, edge-inside}
+use Rattle.edges.proofs.are_joined.Statement.{statement}
+use Rattle.edges.proofs.are_joined.Tie as tie
 
 module _ (s : Solid) {f p q : ℕ} (first : f ≡ firstEdge s) (h : p < 9) (l : q < 9) where
   inside : f + p < 36

@@ -1,4 +1,4 @@
--- `fit::edges::reaches` meets its contract. The loop's invariant: no place before q holds the vertex and is joined to p.
+-- `edges::reaches` meets its contract. The loop's invariant: no place before q holds the vertex and is joined to p.
 -- The measure is how many places are left. Assumes nothing.
 use Prim.Native.Nat.{_-_}
 use mathlib.Core.Path.{sym, ap, _∙_}
@@ -6,10 +6,10 @@ use borrow.Author.Needs.{needs}
 use denote.Ref.{now}
 use Rattle.laws.proofs.SearchLaws.{some, none}
 use Rattle.laws.proofs.PassLaws.{Failed, failed-next, failed-end}
-use Rattle.fit.specs.EdgeLoops.{endsAt}
-use Rattle.fit.proofs.EdgeLaws.{ends-start}
-use Rattle.fit.proofs.edges.reaches.Statement.{statement}
-use Rattle.fit.proofs.edges.reaches.Tie as tie
+use Rattle.edges.specs.EdgeLoops.{endsAt}
+use Rattle.edges.proofs.EdgeLaws.{ends-start}
+use Rattle.edges.proofs.reaches.Statement.{statement}
+use Rattle.edges.proofs.reaches.Tie as tie
 
 abbrev Inv-loop : tie.InvT-loop
 Inv-loop solid corners p v q₀ q = Failed (endsAt solid corners (p .0) (v .0)) 9 q

@@ -1,10 +1,10 @@
--- `fit::edges::edge_entry` meets its contract: the code's table of edges is what the faces give.
+-- `edges::edge_entry` meets its contract: the code's table of edges is what the faces give.
 -- Assumes nothing.
 use borrow.Author.Needs.{needs}
 use mathlib.Core.Path.{refl}
-use Rattle.fit.specs.EdgeLoops.{joined, edgeRows}
-use Rattle.fit.proofs.edges.edge_entry.Statement.{statement}
-use Rattle.fit.proofs.edges.edge_entry.Tie as tie
+use Rattle.edges.specs.EdgeLoops.{joined, edgeRows}
+use Rattle.edges.proofs.edge_entry.Statement.{statement}
+use Rattle.edges.proofs.edge_entry.Tie as tie
 
 cast-column : tie.Need-cast-column
 cast-column c = search needs

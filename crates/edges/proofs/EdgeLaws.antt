@@ -19,7 +19,7 @@ use Rattle.solids.specs.declared.Solid.the-variants.{Tetrahedron, Pyramid, Pris
 use Rattle.solids.specs.Solids.{Face, three, four, Edge, edge, element, faces, at, onFace, ends, edgesOf, elementEdges}
 use Rattle.solids.specs.Fit.{sameSet, hasEdge}
 use Rattle.solids.proofs.SetLaws.{among-first, among-later, same-set, set-there, set-back}
-use Rattle.fit.specs.EdgeLoops.{joined, somePlace, endsAt, startsAt}
+use Rattle.edges.specs.EdgeLoops.{joined, somePlace, endsAt, startsAt}
 
 -- ---- two vertices as ends
 

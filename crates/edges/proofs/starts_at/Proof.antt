@@ -1,4 +1,4 @@
--- `fit::edges::starts_at` meets its contract: the vertex at the place is asked for first, and then the places that it is joined to.
+-- `edges::starts_at` meets its contract: the vertex at the place is asked for first, and then the places that it is joined to.
 -- Assumes nothing.
 use mathlib.Core.Path.{_≡_, sym, _∙_}
 use mathlib.Core.Bool.{Bool, false, _&&_}
@@ -9,9 +9,9 @@ use borrow.Author.Tests.{eq-eqb, ne-eqb}
 use denote.Ref.{now}
 use Rattle.solids.specs.declared.Solid.{Solid}
 use Rattle.solids.specs.Solids.{at}
-use Rattle.fit.specs.EdgeLoops.{somePlace, endsAt, startsAt}
-use Rattle.fit.proofs.edges.starts_at.Statement.{statement}
-use Rattle.fit.proofs.edges.starts_at.Tie as tie
+use Rattle.edges.specs.EdgeLoops.{somePlace, endsAt, startsAt}
+use Rattle.edges.proofs.starts_at.Statement.{statement}
+use Rattle.edges.proofs.starts_at.Tie as tie
 
 -- w is the vertex at the place p
 module _ (s : Solid) (vs : List ℕ) (u v p : ℕ) {w : ℕ} (this : w ≡ at vs p) where
