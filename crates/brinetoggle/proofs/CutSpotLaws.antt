@@ -18,8 +18,8 @@ use Rattle.solids.specs.Solids.{Element}
 use Rattle.solids.specs.Cut.{cutMesh}
 use Rattle.records.specs.Record.{usedOf, spareOf, kindOf, isKind, notZero, recordFinding, recordAt, firstElements}
 use Rattle.judging.specs.Judge.{faultIn, badRecord, badElement, misfit, judged}
-use Rattle.mesh.specs.Cutting.{cutOf}
 use Rattle.judging.proofs.Theorems.{accepted-tetrahedra}
+use Rattle.mesh.specs.Cutting.{cutOf}
 use Rattle.format.specs.File.{start, linesOf, fileVerdict}
 use Rattle.format.specs.Records.{elementRecords, recordsFrom, storedElements}
 use Rattle.format.proofs.AcceptedFileLaws.{file-fits}

@@ -1,8 +1,8 @@
 -- A file that reading accepts has no vertex number that is 0 or above its vertex count, so cutting never names VERTEX for it. Assumes nothing.
-use Prim.Native.Nat.{ℕ, suc, _*_, _≤_, _<_}
+use Prim.Native.Nat.{ℕ, suc, _*_, _≤_}
 use mathlib.Core.Path.{_≡_, refl, ap, _∙_}
 use mathlib.Core.Bool.{Bool, true, false}
-use mathlib.Core.List.{List, [], _∷_}
+use mathlib.Core.List.{List, []}
 use native.Mathlib.Omega.{arith}
 use borrow.Author.Tests.{leb-true, leb-false, ne-eqb, le-ltb}
 use lib.Dec.{T, leb, ltb, ltb→lt, leb→le}

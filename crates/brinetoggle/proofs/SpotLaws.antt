@@ -8,13 +8,13 @@ use native.Mathlib.Omega.{arith}
 use borrow.Author.Tests.{leb-true, le-ltb, ne-eqb}
 use lib.Dec.{T, eqb, leb, ltb}
 use lib.ListN.{length, getD, drop}
+use Rattle.limits.specs.Limits as limits
 use Rattle.laws.proofs.TestLaws.{T-true}
 use Rattle.laws.specs.Pieces.{Pieces, rest, piece, split}
 use Rattle.faults.specs.declared.Fault.{Fault}
 use Rattle.faults.specs.declared.Fault.the-variants as fault
 use Rattle.faults.specs.declared.Refusal.{Refusal}
 use Rattle.faults.specs.Refusals.{Verdict, accepted, refused, numberOf, refuse}
-use Rattle.limits.specs.Limits as limits
 use Rattle.format.specs.Number.{cut, whole, decimals, millimetres, unsigned, coordinateOf}
 use Rattle.format.specs.Number as number
 use Rattle.format.specs.Line.{markOf, roleOf, wants, fieldsOf, judgeCoordinate, judgeCount, judgeVertex, fieldVerdict, first, fieldsVerdict, badMark, tooMany, badShape, noRoom, badCounts, given, judged, lineVerdict}

@@ -1,42 +1,25 @@
 -- What reading into tables with room for every file gives: the counts, the file's records at the front of the tables, and every coordinate within
 -- the limits. Assumes nothing.
-use mathlib.Core.Path.{_≡_, refl, sym, ap, _∙_}
-use mathlib.Core.Bool.{Bool, true, false, cond}
+use mathlib.Core.Path.{_≡_, sym, ap, _∙_}
 use mathlib.Core.List.{List, [], _∷_}
-use Prim.Native.Nat.{ℕ, zero, suc, _+_, _*_, _≤_}
+use Prim.Native.Nat.{ℕ, _*_, _≤_}
 use native.Mathlib.Omega.{arith}
-use borrow.Author.Tests.{leb-true, le-leb}
-use lib.Dec.{T, eqb, leb}
 use lib.IntN.{ℤ}
-use lib.ListN.{length, getD, take, drop}
-use Rattle.limits.specs.Limits.{coordinateLimit, wholeDigits, comma, minus, point, vertexWidth, elementWidth}
-use Rattle.laws.specs.Words.{every}
+use lib.ListN.{length, getD, take}
+use Rattle.limits.specs.Limits.{vertexWidth, elementWidth}
 use Rattle.laws.specs.Lent.{laid}
-use Rattle.laws.specs.Pieces.{Pieces, rest, piece, split}
-use Rattle.laws.proofs.TestLaws.{true-T, and-both}
-use Rattle.laws.proofs.EveryLaws.{every-append}
 use Rattle.faults.specs.declared.Fault.the-variants as fault
 use Rattle.faults.specs.declared.Refusal.{Refusal}
 use Rattle.faults.specs.Refusals.{accepted, refused}
 use Rattle.faults.proofs.Theorems.{answer-tells-verdict}
-use Rattle.volume.specs.Volume.{inRange}
-use Rattle.format.specs.Number.{cut, signed, millimetres, whole, decimals, unsigned, coordinateOf, thousandthsIn, thousandthsOf}
-use Rattle.format.specs.Line.{markOf, roleOf, fieldsOf, firstOf, after}
 use Rattle.format.specs.File.{start, linesOf, fileVerdict}
-use Rattle.format.specs.Records.{vertexRecord, vertexRecords, elementRecords, recordsFrom, ofAccepted, storedVertices, storedElements}
+use Rattle.format.specs.Records.{vertexRecords, elementRecords, recordsFrom, ofAccepted, storedVertices, storedElements}
+use Rattle.format.proofs.AcceptedFileLaws.{file-fits}
+use Rattle.format.proofs.StoredRecordLaws.{records-ranged}
 use Rattle.text.specs.Reading.{verdictOf, roomsOf, ReadDone}
 use Rattle.text.specs.declared.ReadAnswer.{ReadAnswer}
 use Rattle.text.specs.declared.ReadAnswer.the-variants.{Done, Refused}
 use Rattle.text.specs.declared.ReadCounts.{ReadCounts}
-use Rattle.format.specs.declared.Spelt.{Spelt}
-use Rattle.format.specs.declared.Spelt.the-variants.{Of, Not}
-use Rattle.format.specs.declared.Coordinate.{Coordinate}
-use Rattle.format.specs.declared.Coordinate.the-variants.{Thousandths, Wrong}
-use Rattle.format.specs.declared.Role.{Role}
-use Rattle.format.specs.declared.Role.the-variants.{VertexLine, ElementLine, EndLine, UnknownLine}
-use Rattle.format.specs.declared.ReaderState.{ReaderState}
-use Rattle.format.proofs.AcceptedFileLaws.{file-fits}
-use Rattle.format.proofs.StoredRecordLaws.{records-ranged}
 use Rattle.converting.specs.Conversion.{rooms}
 use Rattle.converting.specs.ConversionLoops.{GoodVertices}
 use Rattle.converting.proofs.PutLaws.{take-laid}

@@ -26,12 +26,12 @@ use Rattle.records.specs.WholeRecords.{isNumber}
 use Rattle.records.proofs.RecordLaws.{faultless-clean, finding-clean, finding-repeat, stays}
 use Rattle.format.specs.File.{start, linesOf, fileVerdict}
 use Rattle.format.specs.Records.{vertexRecords, elementRecords, recordsFrom}
-use Rattle.text.specs.Reading.{verdictOf, roomsOf, ReadDone}
-use Rattle.text.specs.declared.ReadAnswer.the-variants as read
-use Rattle.text.specs.declared.ReadCounts.{ReadCounts}
 use Rattle.format.specs.StoredRecords.{Stored, EachRecord}
 use Rattle.format.proofs.Theorems.{Counted}
 use Rattle.format.proofs.StoredRecordLaws.{records-ranged, file-stored}
+use Rattle.text.specs.Reading.{verdictOf, roomsOf, ReadDone}
+use Rattle.text.specs.declared.ReadAnswer.the-variants as read
+use Rattle.text.specs.declared.ReadCounts.{ReadCounts}
 use Rattle.text.proofs.Theorems.{accepted-stores, accepted-counts}
 use Rattle.promises.proofs.ReadBackFile.{Ranged, vertexAt, Sound}
 

@@ -3,25 +3,24 @@
 use Prim.Native.Nat.{ℕ, zero, suc, _+_, _-_, _*_, _^_, _≤_, _<_}
 use native.Mathlib.Omega.{arith}
 use mathlib.Core.Path.{_≡_, refl, sym, ap, _∙_, subst}
-use mathlib.Core.Bool.{Bool, true, false}
-use mathlib.Core.List.{List, [], _∷_, _++_, map, append-nil}
+use mathlib.Core.Bool.{true, false}
+use mathlib.Core.List.{List, [], _∷_, _++_, map}
 use lib.Dec.{T, eqb, ltb, leb, eqb→eq, ltb→lt, leb→le}
 use lib.IntN.{ℤ}
 use lib.ListN.{length, getD, replicate, length-append, length-map}
 use borrow.Author.Tests.{le-ltb, lt-leb, eq-eqb, ne-eqb}
-use Rattle.limits.specs.Limits.{lineEnd, minus, vertexLimit, elementLimit, vertexWidth, elementWidth, cornerWidth, numberDigits, fieldsAt, markWidth}
-use Rattle.laws.specs.Pieces.{Pieces, rest, piece, split}
-use Rattle.laws.specs.Words.{gather, every}
-use Rattle.laws.proofs.PieceLaws.{Free, split-joined, split-free}
+use Rattle.limits.specs.Limits.{lineEnd, minus, vertexLimit, elementLimit, vertexWidth, elementWidth, cornerWidth, numberDigits, markWidth}
+use Rattle.laws.specs.Words.{every}
+use Rattle.laws.proofs.PieceLaws.{Free}
 use Rattle.laws.proofs.TestLaws.{and-left, and-right}
+use Rattle.faults.specs.declared.Finding.the-variants.{Clean}
 use Rattle.volume.specs.Volume.{inRange}
 use Rattle.records.specs.Record.{kindOf, usedOf, spareOf, isKind, recordFinding}
 use Rattle.records.specs.WholeRecords.{isNumber}
 use Rattle.records.proofs.RecordLaws.{IsOne, is-4, is-5, is-6, is-8, which-kind, used-length, record-parts, clean-faultless, clean-whole}
-use Rattle.faults.specs.declared.Finding.the-variants.{Clean}
-use Rattle.format.specs.Number.{numberOf, valueOf, whole}
-use Rattle.format.specs.Line.{markBytes, markWith, markOf, wants, roleOf, fieldsOf, areFields, firstOf, fieldVerdict, fieldsVerdict, badMark, tooMany, badShape, noRoom, badCounts, afterRole, after, lineVerdict}
-use Rattle.format.specs.Records.{vertexRecord, tipFirst, cornerFields, elementRecord, vertexRecords, elementRecords}
+use Rattle.format.specs.Number.{valueOf}
+use Rattle.format.specs.Line.{markBytes, markWith, markOf, wants, roleOf, firstOf, fieldVerdict, badMark, tooMany, noRoom, badCounts, afterRole, after}
+use Rattle.format.specs.Records.{tipFirst, vertexRecords, elementRecords}
 use Rattle.format.specs.declared.Mark.{Mark}
 use Rattle.format.specs.declared.Mark.the-variants.{Vx, Te, Py, Pz, Pr, Hx, En, Unknown}
 use Rattle.format.specs.declared.Role.{Role}
@@ -34,7 +33,7 @@ use Rattle.format.proofs.NumberLaws.{free-above}
 use Rattle.format.proofs.GoodLineLaws.{lineOf, GoodLine, its-role, its-verdict, its-next, its-free, vertex-added, no-element-added, element-added, no-vertex-added}
 use Rattle.writing.specs.Written.{decimal, coordinateText, lineWith, vertexLine, markOfKind, elementLine, endLine}
 use Rattle.promises.specs.ReadBack.{reading, ended, LineBack}
-use Rattle.promises.proofs.ReadBackNumbers.{free-append, decimal-free, decimal-some, number-back, value-back, coordinate-back, thousandths-back, coordinate-free, coordinate-some}
+use Rattle.promises.proofs.ReadBackNumbers.{decimal-free, decimal-some, number-back, value-back, coordinate-back, thousandths-back, coordinate-free, coordinate-some}
 
 -- ---- a line that is read
 

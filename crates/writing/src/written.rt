@@ -2,6 +2,7 @@
 // finds no room is left out: what is promised of bytes is promised where all of them have room.
 use faults::Refusal;
 use faults::number_of;
+use format::Mark;
 use limits::LINE_END;
 use limits::MINUS;
 use limits::POINT;
@@ -10,7 +11,6 @@ use limits::ZERO;
 use records::corner;
 use records::kind_of;
 use solids::Place;
-use format::Mark;
 ghost use mathlib.Core.Path.{_≡_};
 ghost use mathlib.Core.List.{_∷_, []};
 ghost use Prim.Native.Nat.{_%_, _<_};
