@@ -20,8 +20,8 @@ use Rattle.records.specs.Record.{usedOf, spareOf, kindOf, isKind, notZero, reco
 use Rattle.tables.specs.JudgedRecords.{faultIn, badRecord}
 use Rattle.judging.specs.Judge.{badElement, misfit, judged}
 use Rattle.judging.proofs.TableVerdictLaws.{judged-by-tests}
-use Rattle.mesh.specs.Cutting.{cutOf}
 use Rattle.judging.proofs.Theorems.{accepted-tetrahedra}
+use Rattle.mesh.specs.Cutting.{cutOf}
 use Rattle.format.specs.File.{start, linesOf, fileVerdict}
 use Rattle.format.specs.Records.{elementRecords, recordsFrom, storedElements}
 use Rattle.format.proofs.AcceptedFileLaws.{file-fits}

@@ -10,8 +10,8 @@ use lib.Seq.{getD-take, getD-drop, drop-drop, take-at, drop-at}
 use Rattle.limits.specs.Limits.{vertexWidth, tetrahedronWidth, elementWidth}
 use Rattle.laws.specs.Words.{gather}
 use Rattle.laws.proofs.ListLaws.{gather-append}
-use Rattle.records.specs.Record.{asRecord}
 use Rattle.solids.specs.Solids.{Vertex, Tet, tet, ofTet}
+use Rattle.records.specs.Record.{asRecord}
 use Rattle.mesh.specs.Cutting.{flat}
 use Rattle.format.specs.File.{start}
 use Rattle.format.specs.declared.ReaderState.{ReaderState}

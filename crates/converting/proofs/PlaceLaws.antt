@@ -4,20 +4,18 @@ use mathlib.Core.Path.{_≡_, refl, ap}
 use mathlib.Core.Bool.{Bool, true, false, cond}
 use mathlib.Core.List.{List, [], _∷_}
 use Prim.Native.Nat.{ℕ, zero, suc, pred, _+_, _*_, _≤_, zero-le}
-use native.Mathlib.Nat.{le-refl}
 use native.Mathlib.Omega.{arith}
 use borrow.Author.Tests.{ltb-false}
 use lib.Dec.{eqb, ltb}
 use lib.ListN.{length, getD}
 use Rattle.limits.specs.Limits.{lineEnd, fileLimit, elementLimit, tetrahedronWidth, vertexLimit, elementWidth}
 use Rattle.laws.specs.Pieces.{Pieces, rest, piece, push, split}
-use Rattle.laws.specs.Searches.{least}
 use Rattle.laws.proofs.SearchLaws.{least-most}
 use Rattle.faults.specs.declared.Fault.the-variants as fault
 use Rattle.faults.specs.declared.Refusal.{Refusal}
 use Rattle.faults.specs.Refusals.{Verdict, accepted, refused, refuse, refusePair, refuseIf, andThen}
-use Rattle.records.specs.Record.{recordFinding, recordAt, firstElements}
 use Rattle.solids.specs.Cut.{cutMesh}
+use Rattle.records.specs.Record.{recordFinding, recordAt, firstElements}
 use Rattle.tables.specs.JudgedRecords.{faultIn, badRecord}
 use Rattle.judging.specs.Judge.{badElement, misfit, judged}
 use Rattle.judging.proofs.TableVerdictLaws.{judged-by-tests}

@@ -1,105 +1,28 @@
 -- What reading into tables with room for every file gives: the counts, the file's records at the front of the tables, and every coordinate within
 -- the limits. Assumes nothing.
-use mathlib.Core.Path.{_≡_, refl, sym, ap, _∙_}
-use mathlib.Core.Bool.{Bool, true, false, cond}
+use mathlib.Core.Path.{_≡_, sym, ap, _∙_}
 use mathlib.Core.List.{List, [], _∷_}
-use Prim.Native.Nat.{ℕ, zero, suc, _+_, _*_, _≤_}
+use Prim.Native.Nat.{ℕ, _*_, _≤_}
 use native.Mathlib.Omega.{arith}
-use borrow.Author.Tests.{leb-true, le-leb}
-use lib.Dec.{T, eqb, leb}
 use lib.IntN.{ℤ}
-use lib.ListN.{length, getD, take, drop}
-use Rattle.limits.specs.Limits.{coordinateLimit, wholeDigits, comma, minus, point, vertexWidth, elementWidth}
-use Rattle.laws.specs.Words.{every}
+use lib.ListN.{length, getD, take}
+use Rattle.limits.specs.Limits.{vertexWidth, elementWidth}
 use Rattle.laws.specs.Lent.{laid}
-use Rattle.laws.specs.Pieces.{Pieces, rest, piece, split}
-use Rattle.laws.proofs.TestLaws.{true-T, and-both}
-use Rattle.laws.proofs.EveryLaws.{every-append}
 use Rattle.faults.specs.declared.Fault.the-variants as fault
 use Rattle.faults.specs.declared.Refusal.{Refusal}
 use Rattle.faults.specs.Refusals.{accepted, refused}
 use Rattle.faults.proofs.Theorems.{answer-tells-verdict}
-use Rattle.volume.specs.Volume.{inRange}
-use Rattle.format.specs.Number.{cut, signed, millimetres, whole, decimals, unsigned, coordinateOf, thousandthsIn, thousandthsOf}
-use Rattle.format.specs.Line.{markOf, roleOf, fieldsOf, firstOf, after}
 use Rattle.format.specs.File.{start, linesOf, fileVerdict}
-use Rattle.format.specs.Records.{vertexRecord, vertexRecords, elementRecords, recordsFrom, ofAccepted, storedVertices, storedElements}
+use Rattle.format.specs.Records.{vertexRecords, elementRecords, recordsFrom, ofAccepted, storedVertices, storedElements}
+use Rattle.format.proofs.AcceptedFileLaws.{file-fits}
+use Rattle.format.proofs.StoredRecordLaws.{records-ranged}
 use Rattle.text.specs.Reading.{verdictOf, roomsOf, ReadDone}
 use Rattle.text.specs.declared.ReadAnswer.{ReadAnswer}
 use Rattle.text.specs.declared.ReadAnswer.the-variants.{Done, Refused}
 use Rattle.text.specs.declared.ReadCounts.{ReadCounts}
-use Rattle.format.specs.declared.Spelt.{Spelt}
-use Rattle.format.specs.declared.Spelt.the-variants.{Of, Not}
-use Rattle.format.specs.declared.Coordinate.{Coordinate}
-use Rattle.format.specs.declared.Coordinate.the-variants.{Thousandths, Wrong}
-use Rattle.format.specs.declared.Role.{Role}
-use Rattle.format.specs.declared.Role.the-variants.{VertexLine, ElementLine, EndLine, UnknownLine}
-use Rattle.format.specs.declared.ReaderState.{ReaderState}
-use Rattle.format.proofs.AcceptedFileLaws.{file-fits}
 use Rattle.converting.specs.Conversion.{rooms}
 use Rattle.converting.specs.ConversionLoops.{GoodVertices}
 use Rattle.converting.proofs.PutLaws.{take-laid}
-
--- ---- a coordinate that is read is within the limits
-
-abbrev Ranged : Coordinate → Type 0
-Ranged c = T (inRange (thousandthsIn c))
-
-wrong-ranged : (f : _) → Ranged (Wrong f)
-unfolding inRange
-wrong-ranged f = tt
-
-signed-ranged : (neg : Bool) (n : ℕ) → n ≤ coordinateLimit → T (inRange (signed neg n))
-unfolding inRange
-signed-ranged false n h = true-T (le-leb n coordinateLimit h)
-signed-ranged true zero h = tt
-signed-ranged true (suc n) h = and-both (leb n 499999) true (true-T (le-leb n 499999 (omega arith))) tt
-
-millimetres-ranged : (neg : Bool) (w f : Spelt) → Ranged (millimetres neg w f)
-unfolding millimetres
-millimetres-ranged neg (Of w) (Of f) = by (leb (w * 1000 + f) coordinateLimit) refl
-  where
-    by : (b : Bool) → leb (w * 1000 + f) coordinateLimit ≡ b → Ranged (cond b (Thousandths (signed neg (w * 1000 + f))) (Wrong fault.Range))
-    by true e = signed-ranged neg (w * 1000 + f) (leb-true _ _ e)
-    by false e = wrong-ranged fault.Range
-millimetres-ranged neg (Of w) Not = wrong-ranged fault.Number
-millimetres-ranged neg Not (Of f) = wrong-ranged fault.Number
-millimetres-ranged neg Not Not = wrong-ranged fault.Number
-
-unsigned-ranged : (neg : Bool) (p : Pieces) → Ranged (unsigned neg p)
-unfolding unsigned
-unsigned-ranged neg (rest w) = millimetres-ranged neg (whole wholeDigits w) (Of 0)
-unsigned-ranged neg (piece w (rest f)) = millimetres-ranged neg (whole wholeDigits w) (decimals f)
-unsigned-ranged neg (piece w (piece f p)) = wrong-ranged fault.Number
-
-thousandths-ranged : (l : List ℕ) → T (inRange (thousandthsOf l))
-unfolding thousandthsOf coordinateOf
-thousandths-ranged l = by (cut (split comma l)) (eqb (getD l 0 0) minus)
-  where
-    by : (a b : Bool) → Ranged (cond a (Wrong fault.Comma) (cond b (unsigned true (split point (drop 1 l))) (unsigned false (split point l))))
-    by true b = wrong-ranged fault.Comma
-    by false true = unsigned-ranged true (split point (drop 1 l))
-    by false false = unsigned-ranged false (split point l)
-
-first-ranged : (n : ℕ) (p : Pieces) → T (every inRange (firstOf thousandthsOf n p))
-unfolding firstOf
-first-ranged zero p = tt
-first-ranged (suc n) (rest l) = and-both (inRange (thousandthsOf l)) _ (thousandths-ranged l) (first-ranged n (rest []))
-first-ranged (suc n) (piece l p) = and-both (inRange (thousandthsOf l)) _ (thousandths-ranged l) (first-ranged n p)
-
-line-ranged : (state : ReaderState) (role : Role) (l : List ℕ) → T (every inRange (vertexRecords state role l))
-unfolding vertexRecords vertexRecord
-line-ranged state VertexLine l = first-ranged vertexWidth (fieldsOf l)
-line-ranged state ElementLine l = tt
-line-ranged state EndLine l = tt
-line-ranged state UnknownLine l = tt
-
-records-ranged : (state : ReaderState) (p : Pieces) → T (every inRange (recordsFrom vertexRecords state p))
-unfolding recordsFrom
-records-ranged state (rest l) = tt
-records-ranged state (piece l p) =
-    every-append inRange (vertexRecords state (roleOf (markOf l)) l) (recordsFrom vertexRecords (after state l) p)
-    (line-ranged state (roleOf (markOf l)) l) (records-ranged (after state l) p)
 
 -- ---- what reading leaves
 

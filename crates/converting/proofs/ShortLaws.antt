@@ -1,14 +1,14 @@
 -- How long the text of a conversion is at most. Assumes nothing.
 use mathlib.Core.Path.{_≡_, refl}
 use mathlib.Core.List.{List, _++_}
-use Prim.Native.Nat.{ℕ, zero, suc, _+_, _*_, _≤_, _<_, zero-le}
+use Prim.Native.Nat.{ℕ, zero, suc, _*_, _≤_, _<_, zero-le}
 use native.Mathlib.Nat.{mul-suc}
 use native.Mathlib.Omega.{arith}
 use lib.IntN.{ℤ}
 use lib.ListN.{length, getD, length-append}
 use Rattle.faults.specs.Refusals.{Verdict, accepted, refused, andThen}
-use Rattle.records.specs.Record.{kindOf}
 use Rattle.solids.specs.Solids.{Vertex, Tet}
+use Rattle.records.specs.Record.{kindOf}
 use Rattle.mesh.specs.Cutting.{flat, cutOf}
 use Rattle.format.specs.File.{fileVerdict}
 use Rattle.format.specs.Records.{storedVertices, storedElements}

@@ -6,15 +6,15 @@ use mathlib.Core.Path.{_≡_, refl, sym, _∙_}
 use mathlib.Core.Bool.{Bool, true, false, cond, _&&_, true≢false}
 use mathlib.Core.List.{List, [], _∷_}
 use lib.Dec.{eqb, leb}
-use lib.ListN.{length, getD, drop}
+use lib.ListN.{length, getD}
 use borrow.Author.Tests.{eqb-true, eqb-false, not-false}
-use Rattle.limits.specs.Limits.{lineEnd, space, comma, minus, point, digit0, numberDigits, markWidth}
+use Rattle.limits.specs.Limits.{lineEnd, space, comma, digit0, numberDigits, markWidth}
 use Rattle.laws.specs.Pieces.{Pieces, rest, piece, push, split}
 use Rattle.laws.proofs.PieceLaws.{Free}
 use Rattle.faults.specs.Refusals.{accepted}
 use Rattle.faults.specs.declared.Fault.{Fault}
 use Rattle.faults.specs.declared.Fault.the-variants as fault
-use Rattle.format.specs.Number.{cut, spelt, whole, numberOf, unsigned, coordinateOf}
+use Rattle.format.specs.Number.{cut, spelt, whole, numberOf, coordinateOf}
 use Rattle.format.specs.Line.{markWith, markOf, roleOf, wants, fieldsOf, areFields, first, judgeCoordinate, judgeCount, judgeVertex, fieldVerdict, fieldsVerdict, badMark, badShape, after}
 use Rattle.format.specs.File.{fileVerdict}
 use Rattle.format.specs.declared.Mark.{Mark}

@@ -8,5 +8,6 @@ pub mod FileLaws
 pub mod FileRecordLaws
 pub mod GoodLineLaws
 pub mod AcceptedFileLaws
+pub mod StoredRecordLaws
 pub mod CommaLaws
 pub mod Theorems

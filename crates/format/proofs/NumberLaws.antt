@@ -1,10 +1,10 @@
 -- Laws of numbers: what a run of digits spells by its first byte, how large it is, and that no byte of it is below a digit.
 -- Assumes nothing.
-use Prim.Native.Nat.{ℕ, zero, suc, _+_, _-_, _*_, _^_, _≤_, _<_, zero-le}
+use Prim.Native.Nat.{ℕ, suc, _+_, _-_, _*_, _^_, _≤_, _<_, zero-le}
 use native.Mathlib.Nat.{lt-of-lt-of-le, pow-le-pow-right, pow-suc, zero-add, add-zero, add-suc, suc-add}
 use native.Mathlib.Numerals.{add-one}
 use native.Mathlib.Omega.{arith}
-use mathlib.Core.Path.{_≡_, refl, ap, _∙_}
+use mathlib.Core.Path.{_≡_, refl}
 use mathlib.Core.Bool.{Bool, true, false, cond}
 use mathlib.Core.List.{List, [], _∷_, _++_}
 use lib.Dec.{eqb, leb, lit<}

@@ -5,28 +5,35 @@
 --   comma-refused       a coordinate field that holds a comma is COMMA, whatever else is wrong in it
 --   accepted-no-comma   an accepted file holds no comma anywhere
 --   accepted-counts     its counts are those of its records, within the limits and the lent tables
+--   accepted-ranged     its coordinates are within the limits
+--   accepted-stored     its element records have no fault but that a vertex may stand in one twice
 --   refused-none        a refused file has no records
 -- Assumes nothing.
 use Prim.Native.Nat.{ℕ, _*_, _≤_, _<_}
 use mathlib.Core.Path.{_≡_}
 use mathlib.Core.Bool.{true}
 use mathlib.Core.List.{List, [], _∷_, map}
+use lib.Dec.{T}
 use lib.ListN.{length}
 use borrow.Author.Tests.{lt-ltb}
 use Rattle.limits.specs.Limits.{comma, fileLimit, vertexLimit, elementLimit, vertexWidth, elementWidth}
+use Rattle.laws.specs.Words.{every}
 use Rattle.laws.specs.Pieces.{split}
 use Rattle.laws.proofs.PieceLaws.{Free}
 use Rattle.faults.specs.Refusals.{accepted, refused, refuse}
 use Rattle.faults.specs.declared.Fault.the-variants as fault
 use Rattle.faults.specs.declared.Refusal.{Refusal}
+use Rattle.volume.specs.Volume.{inRange}
 use Rattle.format.specs.Number.{cut, coordinateOf}
 use Rattle.format.specs.File.{start, linesOf, fileVerdict}
 use Rattle.format.specs.Records.{vertexRecords, elementRecords, recordsFrom, storedVertices, storedElements}
+use Rattle.format.specs.StoredRecords.{Stored, EachRecord}
 use Rattle.format.specs.Samples.{coordinateRead, coordinateSamples, fileRead, fileSamples}
 use Rattle.format.specs.declared.Coordinate.the-variants.{Wrong}
 use Rattle.format.specs.declared.Rooms.{Rooms}
 use Rattle.format.proofs.FileSampleLaws as S
 use Rattle.format.proofs.AcceptedFileLaws.{file-fits}
+use Rattle.format.proofs.StoredRecordLaws.{records-ranged, file-stored}
 use Rattle.format.proofs.CommaLaws.{file-free}
 
 -- ---- samples
@@ -81,6 +88,15 @@ accepted-counts rooms file vertices elements e =
       vertices-fit = rw p (f .kept .vertexRoom);
       elements-fit = rw q (f .kept .elementRoom);
     }
+
+pub accepted-ranged : (rooms : Rooms) (file counts : List ℕ) → fileVerdict rooms file ≡ accepted counts → T (every inRange (storedVertices rooms file))
+unfolding storedVertices
+accepted-ranged rooms file counts e = rw e (records-ranged start (linesOf file))
+
+pub accepted-stored : (rooms : Rooms) (file : List ℕ) (vertices elements : ℕ) → fileVerdict rooms file ≡ accepted (vertices ∷ elements ∷ [])
+    → EachRecord elementWidth (Stored vertices) (storedElements rooms file)
+unfolding storedElements
+accepted-stored rooms file vertices elements e = rw e (file-stored rooms vertices elements file e)
 
 -- ---- a refused file
 

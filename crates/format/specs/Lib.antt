@@ -3,5 +3,6 @@ pub mod Number
 pub mod Line
 pub mod File
 pub mod Records
+pub mod StoredRecords
 pub mod GoodFields
 pub mod Samples

@@ -9,7 +9,7 @@ use mathlib.Core.List.{List}
 use lib.IntN.{ℤ}
 use lib.ListN.{length, take, drop}
 use lib.Seq.{length-take-le}
-use Rattle.laws.specs.Pieces.{Pieces, rest, piece, split, FirstAt}
+use Rattle.laws.specs.Pieces.{Pieces, rest, piece, FirstAt}
 use Rattle.format.specs.Number.{digitOf, coordinateOf, thousandthsOf, numberOf, valueOf}
 use Rattle.format.specs.declared.Spelt.{Spelt}
 use Rattle.format.specs.declared.Coordinate.{Coordinate}

@@ -9,7 +9,6 @@ pub mod Theorems
 pub mod ReadBackNumbers
 pub mod ReadBackLines
 pub mod ReadBackFile
-pub mod ReadBackStored
 pub mod ReadBackCalls
 pub mod ReadBackAgain
 pub mod ReadBack

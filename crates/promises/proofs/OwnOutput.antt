@@ -1,6 +1,6 @@
 -- The cut of a cut, for files: the program's output, where it is within the reader's limits, is its own output. A reader starts here.
 -- Assumes nothing.
-use mathlib.Core.Path.{_≡_, refl, sym, ap, _∙_, subst}
+use mathlib.Core.Path.{_≡_, refl, sym, _∙_, subst}
 use mathlib.Core.List.{List}
 use Prim.Native.Nat.{ℕ, _≤_}
 use native.Mathlib.Omega.{arith}
@@ -11,7 +11,7 @@ use Rattle.solids.specs.Solids.{Vertex, Tet}
 use Rattle.mesh.specs.Cutting.{cutOf}
 use Rattle.format.specs.File.{fileVerdict}
 use Rattle.format.specs.Records.{storedVertices, storedElements}
-use Rattle.converting.specs.Conversion.{rooms, cutRoom, cutText, conversion, written, programOutput}
+use Rattle.converting.specs.Conversion.{rooms, cutRoom, cutText, conversion, programOutput}
 use Rattle.promises.specs.OwnOutput.{tetrahedraOf}
 use Rattle.promises.proofs.OwnOutputLaws.{converted-again}
 

@@ -1,8 +1,8 @@
 -- A cut mesh as text, given as an input, is read back to the same vertices and its tetrahedra as TE records, which are cut to themselves: so it is
 -- converted to itself. Assumes nothing.
-use mathlib.Core.Path.{_≡_, refl, sym, ap, _∙_, subst}
+use mathlib.Core.Path.{_≡_, sym, _∙_, subst}
 use mathlib.Core.Bool.{true}
-use mathlib.Core.List.{List, [], _∷_, map}
+use mathlib.Core.List.{List, map}
 use Prim.Native.Nat.{ℕ, _+_, _*_, _-_, _≤_, _<_}
 use native.Mathlib.Omega.{arith}
 use lib.IntN.{ℤ, pos}
@@ -11,7 +11,7 @@ use lib.Seq.{take-all}
 use Rattle.limits.specs.Limits.{fileLimit, vertexWidth, elementWidth, elementLimit}
 use Rattle.laws.proofs.TestLaws.{T-true}
 use Rattle.laws.proofs.EveryLaws.{every-index}
-use Rattle.faults.specs.Refusals.{Verdict, accepted}
+use Rattle.faults.specs.Refusals.{accepted}
 use Rattle.volume.specs.Volume.{inRange, pointInRange, pointAt}
 use Rattle.solids.specs.Solids.{Vertex, Tet}
 use Rattle.solids.specs.Cut.{cutMesh}
@@ -21,7 +21,6 @@ use Rattle.mesh.specs.Cutting.{cutOf}
 use Rattle.judging.proofs.AcceptedTableLaws.{accepted-clean, accepted-vertices}
 use Rattle.format.specs.File.{fileVerdict}
 use Rattle.format.specs.Records.{storedVertices, storedElements}
-use Rattle.writing.specs.Written.{writtenFile}
 use Rattle.converting.specs.Conversion.{rooms, cutRoom, cutText, conversion}
 use Rattle.converting.proofs.CutLaws.{FromTable, cut-of-table}
 use Rattle.converting.proofs.ReadingLaws.{file-long, file-good}

@@ -1,37 +1,39 @@
 -- Reading, then writing what was read, then reading again: the tables that reading leaves can be written and read, where no vertex stands twice
 -- in an element. Assumes nothing.
-use Prim.Native.Nat.{ℕ, suc, _*_, _≤_, _<_}
+use Prim.Native.Nat.{ℕ, suc, _+_, _*_, _≤_, _<_}
 use native.Mathlib.Nat.{mul-suc}
 use native.Mathlib.Omega.{arith}
 use mathlib.Core.Path.{_≡_, refl, sym, ap, _∙_}
 use mathlib.Core.Bool.{Bool, true, false, cond}
 use mathlib.Core.List.{List, [], _∷_, _++_}
-use lib.Dec.{eqb, eqb→eq}
-use lib.IntN.{ℤ}
-use lib.ListN.{length, take, drop, length-append, length-drop, take-append-drop}
-use lib.Seq.{take-append-le, drop-append-le, take-at, length-take-le}
+use lib.Dec.{T, eqb, eqb→eq}
+use lib.IntN.{ℤ, pos}
+use lib.ListN.{length, getD, take, drop, length-append, length-drop, take-append-drop}
+use lib.Seq.{getD-take, getD-drop, take-append-le, drop-append-le, take-at, length-take-le}
 use borrow.Author.Tests.{eq-eqb}
 use Rattle.limits.specs.Limits.{vertexWidth, elementWidth}
-use Rattle.laws.specs.Words.{some, distinct}
+use Rattle.laws.specs.Words.{some, every, distinct}
 use Rattle.laws.specs.Lent.{laid}
 use Rattle.laws.proofs.TestLaws.{true-T, T-true}
-use Rattle.laws.proofs.EveryLaws.{none-follows}
+use Rattle.laws.proofs.EveryLaws.{every-index, none-follows}
 use Rattle.faults.specs.Refusals.{accepted}
 use Rattle.faults.specs.declared.Finding.the-variants.{Clean, Found}
 use Rattle.faults.specs.declared.Fault.the-variants.{Repeat}
 use Rattle.faults.proofs.Theorems.{answer-tells-verdict}
+use Rattle.volume.specs.Volume.{inRange}
 use Rattle.records.specs.Record.{kindOf, usedOf, spareOf, isKind, strayVertex, notZero, recordFinding, recordAt}
 use Rattle.records.specs.WholeRecords.{isNumber}
 use Rattle.records.proofs.RecordLaws.{faultless-clean, finding-clean, finding-repeat, stays}
 use Rattle.format.specs.File.{start, linesOf, fileVerdict}
 use Rattle.format.specs.Records.{vertexRecords, elementRecords, recordsFrom}
+use Rattle.format.specs.StoredRecords.{Stored, EachRecord}
+use Rattle.format.proofs.Theorems.{Counted}
+use Rattle.format.proofs.StoredRecordLaws.{records-ranged, file-stored}
 use Rattle.text.specs.Reading.{verdictOf, roomsOf, ReadDone}
 use Rattle.text.specs.declared.ReadAnswer.the-variants as read
 use Rattle.text.specs.declared.ReadCounts.{ReadCounts}
-use Rattle.format.proofs.Theorems.{Counted}
 use Rattle.text.proofs.Theorems.{accepted-stores, accepted-counts}
 use Rattle.promises.proofs.ReadBackFile.{Ranged, vertexAt, Sound}
-use Rattle.promises.proofs.ReadBackStored.{Stored, StoredRecords, file-stored}
 
 -- ---- the records that are laid at the front of a table
 
@@ -64,6 +66,17 @@ record-kept w n i t old h long =
     ∙ sym (record-front w i (take (w * n) t) (drop (w * n) t) b)
     ∙ ap (λ l. take w (drop (w * i) l)) (take-append-drop (w * n) t)
 
+-- ---- a vertex of a table whose every number is within the limits
+
+module _ (l : List ℤ) (h : T (every inRange l)) (i : ℕ) (b : vertexWidth * suc i ≤ length l) where
+  ranged-number : (j : ℕ) → j < vertexWidth → inRange (getD (take vertexWidth (drop (vertexWidth * i) l)) j (pos 0)) ≡ true
+  ranged-number j k =
+      rw (getD-take vertexWidth (drop (vertexWidth * i) l) j (pos 0) k, getD-drop (vertexWidth * i) l j (pos 0))
+      (T-true _ (every-index inRange l (pos 0) (vertexWidth * i + j) h (omega arith)))
+
+  ranged-record : Ranged (take vertexWidth (drop (vertexWidth * i) l))
+  ranged-record = record { x = ranged-number 0 (omega arith); y = ranged-number 1 (omega arith); z = ranged-number 2 (omega arith) }
+
 -- ---- the tables that reading leaves
 
 module _
@@ -79,7 +92,7 @@ module _
     unfolding verdictOf
     read-accepted = sym (answer-tells-verdict (0 ∷ 0 ∷ []) (verdictOf (read.Done counts)) _ (done .answer))
 
-    records : StoredRecords (roomsOf vertices elements) (counts .vertices) (counts .elements) file
+    records : EachRecord elementWidth (Stored (counts .vertices)) (recordsFrom elementRecords start (linesOf file))
     records = file-stored (roomsOf vertices elements) (counts .vertices) (counts .elements) file read-accepted
 
     counted : Counted (roomsOf vertices elements) file (counts .vertices) (counts .elements)
@@ -107,14 +120,14 @@ module _
     vertex-there : (i : ℕ) → i < counts .vertices → Ranged (vertexAt vertices′ i)
     vertex-there i h =
         let b : vertexWidth * suc i ≤ length storedV = omega (arith, counted .vertices-stored) in
-        rw (vertices-laid, record-laid storedV vertices vertexWidth i b) (records .ranged i b)
+        rw (vertices-laid, record-laid storedV vertices vertexWidth i b) (ranged-record storedV (records-ranged start (linesOf file)) i b)
 
     -- a record that is stored has no fault, or a vertex twice
     pub element-there : (i : ℕ) → i < counts .elements → Stored (counts .vertices) (recordAt elements′ i)
     unfolding recordAt
     element-there i h =
         let b : elementWidth * suc i ≤ length storedE = omega (arith, counted .elements-stored) in
-        rw (elements-laid, record-laid storedE elements elementWidth i b) (records .stored i b)
+        rw (elements-laid, record-laid storedE elements elementWidth i b) (records i b)
 
     pub read-sound : ((k : ℕ) → k < counts .elements → distinct (usedOf (recordAt elements′ k)) ≡ true)
         → Sound (counts .vertices) (counts .elements) elements′ vertices′

@@ -23,9 +23,10 @@ use Rattle.format.specs.File.{start, linesOf, atEnd, fileFrom, fileVerdict}
 use Rattle.format.specs.Records.{vertexRecords, elementRecords, recordsFrom, storedVertices, storedElements}
 use Rattle.format.specs.declared.ReaderState.{ReaderState}
 use Rattle.format.specs.declared.Rooms.{Rooms}
+use Rattle.format.specs.GoodFields.{Each}
 use Rattle.writing.specs.Written.{closed, vertexLines, elementLines, afterLines, linesFrom, fileLines, writtenFile}
 use Rattle.promises.specs.ReadBack.{reading, ended, FileBack}
-use Rattle.promises.proofs.ReadBackLines.{Each, LineRead, vertex-read, element-read, end-read}
+use Rattle.promises.proofs.ReadBackLines.{LineRead, vertex-read, element-read, end-read}
 
 -- ---- lines that are read one after the other
 

@@ -15,10 +15,10 @@ use Rattle.records.specs.Record.{recordAt}
 use Rattle.format.specs.Line.{markOf, roleOf, lineVerdict}
 use Rattle.format.specs.File.{fileVerdict}
 use Rattle.format.specs.Records.{vertexRecords, elementRecords, storedVertices, storedElements}
-use Rattle.text.specs.Reading.{ReadDone}
 use Rattle.format.specs.declared.ReaderState.{ReaderState}
 use Rattle.format.specs.declared.Rooms.{Rooms}
 use Rattle.format.specs.declared.Line.the-variants.{Next}
+use Rattle.text.specs.Reading.{ReadDone}
 use Rattle.text.specs.declared.ReadAnswer.{ReadAnswer}
 use Rattle.text.specs.declared.ReadAnswer.the-variants as read
 use Rattle.writing.specs.Written.{closed, vertexLine, elementLine, endLine, writtenFile, writeVertexVerdict, writeElementVerdict, writeEndVerdict}

@@ -2,7 +2,6 @@
 -- Assumes nothing.
 use Prim.Native.Nat.{ℕ, zero, suc, _+_, _-_, _≤_, _<_}
 use native.Mathlib.Nat.{add-zero}
-use native.Mathlib.Numerals.{add-one}
 use native.Mathlib.Omega.{arith}
 use mathlib.Core.Path.{_≡_, refl, sym, ap, _∙_}
 use mathlib.Core.Bool.{Bool, true, false, cond}
@@ -15,12 +14,12 @@ use borrow.Author.Tests.{ne-eqb, le-ltb}
 use Rattle.limits.specs.Limits.{lineEnd, space, minus, digit0, fieldsAt}
 use Rattle.format.specs.Number.{thousandthsOf, valueOf}
 use Rattle.format.specs.Line.{fieldVerdict}
-use Rattle.text.specs.QuickLoops.{CoordinateAt, NumberAt, endOf, FieldsRead, Cleared}
 use Rattle.format.specs.GoodFields.{Good, Each, spaced}
 use Rattle.format.specs.declared.Role.{Role}
 use Rattle.format.specs.declared.Role.the-variants.{VertexLine, ElementLine}
 use Rattle.format.specs.declared.ReaderState.{ReaderState}
 use Rattle.format.proofs.NumberLaws.{above-lower}
+use Rattle.text.specs.QuickLoops.{CoordinateAt, NumberAt, endOf, FieldsRead, Cleared}
 
 -- ---- one field
 

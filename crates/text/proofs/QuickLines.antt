@@ -1,32 +1,29 @@
 -- A line read quickly is accepted by the page's tests and adds its record: its bytes are cut into its mark and its fields again.
 -- Assumes nothing.
-use Prim.Native.Nat.{ℕ, zero, suc, _+_, _*_, _-_, _≤_, _<_}
+use Prim.Native.Nat.{ℕ, _+_, _*_, _-_, _≤_, _<_}
 use native.Mathlib.Numerals.{add-one}
 use native.Mathlib.Omega.{arith}
 use mathlib.Core.Path.{_≡_, refl, sym, ap, _∙_}
-use mathlib.Core.Bool.{true, false, true≢false}
+use mathlib.Core.Bool.{false}
 use mathlib.Core.List.{List, [], _∷_, _++_, map, append-assoc, append-nil}
 use lib.IntN.{ℤ}
-use lib.ListN.{length, getD, take, drop, set, replicate, length-append, length-set, length-replicate, length-map}
+use lib.ListN.{length, getD, take, drop, set, replicate, length-set}
 use lib.Seq.{take-take, take-set-le, take-suc-set}
 use borrow.Author.Tests.{leb-false}
-use Rattle.limits.specs.Limits.{lineEnd, space, minus, fieldsAt, markWidth, vertexLimit, elementLimit, vertexWidth, elementWidth, cornerWidth}
-use Rattle.laws.specs.Pieces.{Pieces, rest, piece, split}
-use Rattle.laws.proofs.PieceLaws.{Free, split-joined, split-free}
-use Rattle.format.specs.Number.{thousandthsOf, numberOf, whole, valueOf}
-use Rattle.format.specs.Line.{markWith, markOf, roleOf, wants, fieldsOf, areFields, firstOf, fieldsVerdict, badMark, tooMany, badShape, noRoom, badCounts, afterRole, lineVerdict}
-use Rattle.format.specs.Records.{vertexRecord, tipFirst, cornerFields, elementRecord, vertexRecords, elementRecords}
-use Rattle.text.specs.ReadingLoops.{Own}
-use Rattle.text.specs.QuickLoops.{FieldsAt, FieldsRead, Cleared, Room, ElementRead, LineQuick}
+use Rattle.limits.specs.Limits.{lineEnd, space, fieldsAt, markWidth, vertexLimit, elementLimit, vertexWidth, elementWidth, cornerWidth}
+use Rattle.laws.specs.Pieces.{Pieces, piece, split}
+use Rattle.laws.proofs.PieceLaws.{split-joined}
+use Rattle.format.specs.Number.{thousandthsOf, valueOf}
+use Rattle.format.specs.Line.{markOf, roleOf, wants, badMark, tooMany, noRoom, badCounts, afterRole}
+use Rattle.format.specs.Records.{tipFirst}
 use Rattle.format.specs.declared.Mark.{Mark}
-use Rattle.format.specs.declared.Mark.the-variants.{Vx, Te, Py, Pz, Pr, Hx, En, Unknown}
 use Rattle.format.specs.declared.Role.{Role}
 use Rattle.format.specs.declared.Role.the-variants.{VertexLine, ElementLine}
-use Rattle.format.specs.declared.Judged.the-variants.{Passed}
 use Rattle.format.specs.declared.ReaderState.{ReaderState}
 use Rattle.format.specs.declared.Rooms.{Rooms}
-use Rattle.format.specs.declared.Line.the-variants.{Next}
 use Rattle.format.proofs.GoodLineLaws.{inPieces, lineOf, GoodLine, its-verdict, its-free, vertex-wants, wants-few, vertex-added, no-element-added, element-added, no-vertex-added}
+use Rattle.text.specs.ReadingLoops.{Own}
+use Rattle.text.specs.QuickLoops.{FieldsAt, FieldsRead, Cleared, Room, ElementRead, LineQuick}
 
 -- ---- the record of an element line
 

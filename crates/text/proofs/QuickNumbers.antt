@@ -7,20 +7,19 @@ use native.Mathlib.Omega.{arith}
 use mathlib.Core.Path.{_≡_, refl, sym, ap, _∙_}
 use mathlib.Core.Bool.{Bool, true, false, cond}
 use mathlib.Core.List.{List, [], _∷_, _++_, append-assoc}
-use lib.Dec.{eqb, leb, lit<}
+use lib.Dec.{eqb, lit<}
 use lib.IntN.{pos, negℤ}
 use lib.ListN.{length, getD, drop, length-append, List·getD-append}
 use lib.Seq.{drop-cons, getD-drop}
-use borrow.Author.Tests.{leb-true, le-leb, eqb-true, eqb-false, eq-eqb, ne-eqb}
-use Rattle.limits.specs.Limits.{comma, minus, point, digit0, digit9, wholeDigits, decimalDigits, numberDigits, coordinateLimit}
-use Rattle.laws.proofs.PieceLaws.{Free, split-joined, split-free}
+use borrow.Author.Tests.{le-leb, eqb-true, eqb-false, eq-eqb, ne-eqb}
+use Rattle.limits.specs.Limits.{comma, minus, point, digit0, wholeDigits, decimalDigits, numberDigits, coordinateLimit}
+use Rattle.laws.proofs.PieceLaws.{split-joined, split-free}
 use Rattle.format.proofs.NumberLaws.{above-append, above-lower, above-free, digit-low, appended-small, spelt-above, spelt-append}
-use Rattle.format.specs.Number.{digitOf, appended, onto, spelt, whole, decimals, millimetres, unsigned, coordinateOf, numberOf}
+use Rattle.format.specs.Number.{digitOf, appended, spelt, whole, decimals, millimetres, unsigned, coordinateOf, numberOf}
 use Rattle.format.specs.GoodFields.{Above}
-use Rattle.text.specs.QuickLoops.{DigitsAt, WholeAt, Within, DecimalsAt, MagnitudeAt, CoordinateAt, NumberAt, scaled, startOf}
-use Rattle.format.specs.declared.Spelt.{Spelt}
-use Rattle.format.specs.declared.Spelt.the-variants.{Of, Not}
+use Rattle.format.specs.declared.Spelt.the-variants.{Of}
 use Rattle.format.proofs.NumberLaws.{appended-small}
+use Rattle.text.specs.QuickLoops.{DigitsAt, WholeAt, Within, DecimalsAt, MagnitudeAt, CoordinateAt, NumberAt, scaled, startOf}
 
 -- ---- bytes
 

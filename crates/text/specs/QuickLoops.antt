@@ -1,9 +1,9 @@
 -- What the quick reading of a line says of the bytes that it went through: each contract cuts what stands from a place on into
 -- the bytes that were read and what stands behind them.
-use Prim.Native.Nat.{ℕ, suc, _+_, _*_, _-_, _^_, _≤_, _<_}
+use Prim.Native.Nat.{ℕ, _+_, _*_, _-_, _^_, _≤_, _<_}
 use mathlib.Core.Path.{_≡_}
 use mathlib.Core.Bool.{Bool, false, cond}
-use mathlib.Core.List.{List, [], _∷_, _++_, map}
+use mathlib.Core.List.{List, _∷_, _++_, map}
 use lib.Dec.{eqb}
 use lib.ListN.{length, take, drop, set, replicate}
 use lib.IntN.{ℤ}
@@ -13,7 +13,6 @@ use Rattle.format.specs.Number.{spelt, whole, decimals, signed, unsigned, coord
 use Rattle.format.specs.Line.{wants, roleOf, afterRole}
 use Rattle.format.specs.Records.{tipFirst}
 use Rattle.format.specs.GoodFields.{Above, Good, Each, spaced}
-use Rattle.text.specs.ReadingLoops.{Own, LineTaken}
 use Rattle.format.specs.declared.Spelt.the-variants.{Of}
 use Rattle.format.specs.declared.Coordinate.the-variants.{Thousandths}
 use Rattle.format.specs.declared.Role.{Role}
@@ -21,6 +20,7 @@ use Rattle.format.specs.declared.Role.the-variants.{ElementLine}
 use Rattle.format.specs.declared.Mark.{Mark}
 use Rattle.format.specs.declared.ReaderState.{ReaderState}
 use Rattle.format.specs.declared.Rooms.{Rooms}
+use Rattle.text.specs.ReadingLoops.{Own, LineTaken}
 
 -- ---- numbers
 

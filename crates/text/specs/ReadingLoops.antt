@@ -14,10 +14,10 @@ use Rattle.faults.specs.declared.Fault.the-variants as fault
 use Rattle.format.specs.Line.{markOf, roleOf, lineVerdict}
 use Rattle.format.specs.File.{start, linesOf, fileFrom, fileVerdict}
 use Rattle.format.specs.Records.{vertexRecords, elementRecords, recordsFrom, ofAccepted}
-use Rattle.text.specs.Reading.{verdictOf}
 use Rattle.format.specs.declared.ReaderState.{ReaderState}
 use Rattle.format.specs.declared.Rooms.{Rooms}
 use Rattle.format.specs.declared.Line.the-variants.{Next}
+use Rattle.text.specs.Reading.{verdictOf}
 use Rattle.text.specs.declared.file.Step.{Step}
 use Rattle.text.specs.declared.file.Step.the-variants as step
 use Rattle.text.specs.declared.ReadCounts.{ReadCounts}

@@ -1,16 +1,15 @@
 -- `numbers::digits` spells a number. Invariant: the whole spells what the rest from i on spells after n, and n has at most i digits.
 -- Assumes nothing.
-use Prim.Native.Nat.{_-_, _*_, _^_, _≤_, _<_}
+use Prim.Native.Nat.{_-_, _^_, _≤_, _<_}
 use native.Mathlib.Nat.{pow-suc, pow-le-pow-right, lt-of-lt-of-le}
 use native.Mathlib.Numerals.{add-one}
 use native.Mathlib.Omega.{arith}
 use mathlib.Core.Path.{_≡_, refl, sym, _∙_}
 use borrow.Author.Needs.{needs}
 use lib.Dec.{lit<}
-use lib.ListN.{length, drop, getD}
+use lib.ListN.{length, drop}
 use Rattle.limits.specs.Limits.{wholeDigits}
-use Rattle.format.specs.Number.{digitOf, spelt}
-use Rattle.format.specs.declared.Spelt.the-variants.{Of}
+use Rattle.format.specs.Number.{spelt}
 use Rattle.format.proofs.NumberLaws.{spelt-not, spelt-on, spelt-end, digit-told}
 use Rattle.numbers.proofs.digits.Statement.{statement}
 use Rattle.numbers.proofs.digits.Tie as tie

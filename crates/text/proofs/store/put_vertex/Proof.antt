@@ -12,8 +12,8 @@ use Rattle.laws.specs.Pieces.{split}
 use Rattle.format.specs.Number.{thousandthsOf}
 use Rattle.format.specs.Line.{firstOf}
 use Rattle.format.specs.Records.{vertexRecord}
-use Rattle.numbers.proofs.NegativeLaws.{back}
 use Rattle.format.proofs.FieldLaws.{first-none, first-more}
+use Rattle.numbers.proofs.NegativeLaws.{back}
 use Rattle.text.proofs.store.put_vertex.Statement.{statement}
 use Rattle.text.proofs.store.put_vertex.Tie as tie
 

@@ -1,4 +1,4 @@
--- What reading stores: each vertex is within the limits, and each element record has no fault but that a vertex may stand in it twice,
+-- What reading stores: each coordinate is within the limits, and each element record has no fault but that a vertex may stand in it twice,
 -- which reading does not judge. Assumes nothing.
 use Prim.Native.Nat.{ℕ, zero, suc, _+_, _*_, _≤_, _<_}
 use native.Mathlib.Nat.{le-refl, le-trans, mul-suc, mul-zero, add-comm}
@@ -7,15 +7,14 @@ use mathlib.Core.Path.{_≡_, refl, sym, _∙_}
 use mathlib.Core.Bool.{Bool, true, false, cond, _&&_, true≢false}
 use mathlib.Core.List.{List, [], _∷_, _++_, map}
 use lib.Dec.{T, eqb, ltb, leb, eqb→eq, ltb→lt, leb→le, lt→ltb, le→leb}
-use lib.IntN.{ℤ, pos, negsuc, natAbs}
-use lib.ListN.{length, getD, take, drop, length-append}
+use lib.ListN.{length, getD, drop, length-append}
 use lib.Seq.{drop-drop, take-at, drop-at}
 use borrow.Author.Tests.{le-leb, leb-true, eqb-false, ltb-false, eq-eqb, not-false}
-use Rattle.limits.specs.Limits.{comma, minus, point, coordinateLimit, space, vertexWidth, elementWidth, cornerWidth, markWidth}
+use Rattle.limits.specs.Limits.{comma, minus, point, coordinateLimit, wholeDigits, space, vertexWidth, elementWidth, cornerWidth, markWidth}
 use Rattle.laws.specs.Pieces.{Pieces, rest, piece, split}
 use Rattle.laws.specs.Words.{every}
 use Rattle.laws.proofs.TestLaws.{true-T, T-true, and-right, and-both}
-use Rattle.laws.proofs.EveryLaws.{every-map}
+use Rattle.laws.proofs.EveryLaws.{every-map, every-append}
 use Rattle.faults.specs.Refusals.{accepted}
 use Rattle.faults.specs.declared.Fault.{Fault}
 use Rattle.faults.specs.declared.Fault.the-variants as fault
@@ -23,78 +22,86 @@ use Rattle.volume.specs.Volume.{inRange}
 use Rattle.records.specs.Record as record-of
 use Rattle.records.specs.Record.{kindOf, usedOf, spareOf, isKind}
 use Rattle.records.specs.WholeRecords.{isNumber}
-use Rattle.format.specs.Number.{cut, signed, millimetres, unsigned, coordinateOf, thousandthsIn, thousandthsOf, valueIn, numberOf, valueOf, whole}
-use Rattle.format.specs.Line.{markOf, roleOf, wants, fieldsOf, some, areFields, firstOf, numbersOf, judgeCoordinate, judgeVertex, first, fieldVerdict, fieldsVerdict, badShape, afterRole, after}
+use Rattle.format.specs.Number.{cut, signed, millimetres, whole, decimals, unsigned, coordinateOf, thousandthsIn, thousandthsOf, valueIn, numberOf, valueOf}
+use Rattle.format.specs.Line.{markOf, roleOf, wants, fieldsOf, some, areFields, firstOf, numbersOf, judgeVertex, first, fieldVerdict, fieldsVerdict, badShape, afterRole, after}
 use Rattle.format.specs.File.{start, linesOf, fileVerdict}
 use Rattle.format.specs.Records.{vertexRecord, elementRecord, vertexRecords, elementRecords, recordsFrom}
+use Rattle.format.specs.StoredRecords.{Stored, EachRecord}
 use Rattle.format.specs.declared.Mark.{Mark}
 use Rattle.format.specs.declared.Mark.the-variants.{Vx, Te, Py, Pz, Pr, Hx, En, Unknown}
 use Rattle.format.specs.declared.Role.{Role}
 use Rattle.format.specs.declared.Role.the-variants.{VertexLine, ElementLine, EndLine, UnknownLine}
 use Rattle.format.specs.declared.Spelt.{Spelt}
 use Rattle.format.specs.declared.Spelt.the-variants.{Of, Not}
 use Rattle.format.specs.declared.Coordinate.{Coordinate}
 use Rattle.format.specs.declared.Coordinate.the-variants.{Thousandths, Wrong}
 use Rattle.format.specs.declared.Judged.{Judged}
 use Rattle.format.specs.declared.Judged.the-variants.{Passed, Failed}
 use Rattle.format.specs.declared.ReaderState.{ReaderState}
 use Rattle.format.specs.declared.Rooms.{Rooms}
-use Rattle.format.proofs.FieldLaws.{none-wanted, length-first}
+use Rattle.format.proofs.FieldLaws.{none-wanted}
 use Rattle.format.proofs.FileLaws.{Taken, accepted-holds}
-use Rattle.promises.proofs.ReadBackFile.{Ranged}
 
 -- ---- a coordinate that is read is within the limits
 
-in-range : (z : ℤ) → natAbs z ≤ coordinateLimit → inRange z ≡ true
+abbrev Ranged : Coordinate → Type 0
+Ranged c = T (inRange (thousandthsIn c))
+
+wrong-ranged : (f : _) → Ranged (Wrong f)
 unfolding inRange
-in-range (pos n) h = le-leb n coordinateLimit h
-in-range (negsuc n) h = rw (le-leb n 499999 (omega arith))
+wrong-ranged f = tt
 
-size : (neg : Bool) (m : ℕ) → natAbs (signed neg m) ≡ m
-size true zero = refl
-size true (suc m) = refl
-size false m = refl
+signed-ranged : (neg : Bool) (n : ℕ) → n ≤ coordinateLimit → T (inRange (signed neg n))
+unfolding inRange
+signed-ranged false n h = true-T (le-leb n coordinateLimit h)
+signed-ranged true zero h = tt
+signed-ranged true (suc n) h = and-both (leb n 499999) true (true-T (le-leb n 499999 (omega arith))) tt
 
-not-wrong : {X : Type 0} (f : Fault) (z : ℤ) → Wrong f ≡ Thousandths z → X
-not-wrong f z e = let q : _≡_ {A = ℕ} 0 1 = cc in absurd (omega arith)
-
-millimetres-range : (neg : Bool) (a b : Spelt) (z : ℤ) → millimetres neg a b ≡ Thousandths z → inRange z ≡ true
+millimetres-ranged : (neg : Bool) (w f : Spelt) → Ranged (millimetres neg w f)
 unfolding millimetres
-millimetres-range neg (Of w) (Of f) z e = by (leb (w * 1000 + f) coordinateLimit) refl e
+millimetres-ranged neg (Of w) (Of f) = by (leb (w * 1000 + f) coordinateLimit) refl
   where
-    by : (b : Bool) → leb (w * 1000 + f) coordinateLimit ≡ b
-        → cond b (Thousandths (signed neg (w * 1000 + f))) (Wrong fault.Range) ≡ Thousandths z → inRange z ≡ true
-    by true q e =
-        let s : signed neg (w * 1000 + f) ≡ z = cc in
-        rw (← s) (in-range (signed neg (w * 1000 + f)) (rw (size neg (w * 1000 + f)) (leb-true (w * 1000 + f) coordinateLimit q)))
-    by false q e = not-wrong fault.Range z e
-millimetres-range neg (Of w) Not z e = not-wrong fault.Number z e
-millimetres-range neg Not (Of f) z e = not-wrong fault.Number z e
-millimetres-range neg Not Not z e = not-wrong fault.Number z e
+    by : (b : Bool) → leb (w * 1000 + f) coordinateLimit ≡ b → Ranged (cond b (Thousandths (signed neg (w * 1000 + f))) (Wrong fault.Range))
+    by true e = signed-ranged neg (w * 1000 + f) (leb-true _ _ e)
+    by false e = wrong-ranged fault.Range
+millimetres-ranged neg (Of w) Not = wrong-ranged fault.Number
+millimetres-ranged neg Not (Of f) = wrong-ranged fault.Number
+millimetres-ranged neg Not Not = wrong-ranged fault.Number
 
-unsigned-range : (neg : Bool) (p : Pieces) (z : ℤ) → unsigned neg p ≡ Thousandths z → inRange z ≡ true
+unsigned-ranged : (neg : Bool) (p : Pieces) → Ranged (unsigned neg p)
 unfolding unsigned
-unsigned-range neg (rest w) z e = millimetres-range neg _ _ z e
-unsigned-range neg (piece w (rest f)) z e = millimetres-range neg _ _ z e
-unsigned-range neg (piece w (piece f p)) z e = not-wrong fault.Number z e
+unsigned-ranged neg (rest w) = millimetres-ranged neg (whole wholeDigits w) (Of 0)
+unsigned-ranged neg (piece w (rest f)) = millimetres-ranged neg (whole wholeDigits w) (decimals f)
+unsigned-ranged neg (piece w (piece f p)) = wrong-ranged fault.Number
 
-coordinate-range : (l : List ℕ) (z : ℤ) → coordinateOf l ≡ Thousandths z → inRange z ≡ true
-unfolding coordinateOf
-coordinate-range l z = by (cut (split comma l)) (eqb (getD l 0 0) minus)
+thousandths-ranged : (l : List ℕ) → T (inRange (thousandthsOf l))
+unfolding thousandthsOf coordinateOf
+thousandths-ranged l = by (cut (split comma l)) (eqb (getD l 0 0) minus)
   where
-    by : (a b : Bool) → cond a (Wrong fault.Comma) (cond b (unsigned true (split point (drop 1 l))) (unsigned false (split point l))) ≡ Thousandths z
-        → inRange z ≡ true
-    by true b e = not-wrong fault.Comma z e
-    by false true e = unsigned-range true (split point (drop 1 l)) z e
-    by false false e = unsigned-range false (split point l) z e
+    by : (a b : Bool) → Ranged (cond a (Wrong fault.Comma) (cond b (unsigned true (split point (drop 1 l))) (unsigned false (split point l))))
+    by true b = wrong-ranged fault.Comma
+    by false true = unsigned-ranged true (split point (drop 1 l))
+    by false false = unsigned-ranged false (split point l)
 
-passed-range : (state : ReaderState) (l : List ℕ) → fieldVerdict state VertexLine l ≡ Passed → inRange (thousandthsOf l) ≡ true
-unfolding fieldVerdict thousandthsOf
-passed-range state l = by (coordinateOf l) refl
-  where
-    by : (c : Coordinate) → coordinateOf l ≡ c → judgeCoordinate c ≡ Passed → inRange (thousandthsIn c) ≡ true
-    by (Thousandths z) q e = coordinate-range l z q
-    by (Wrong f) q e = let z : _≡_ {A = ℕ} 0 1 = cc in absurd (omega arith)
+first-ranged : (n : ℕ) (p : Pieces) → T (every inRange (firstOf thousandthsOf n p))
+unfolding firstOf
+first-ranged zero p = tt
+first-ranged (suc n) (rest l) = and-both (inRange (thousandthsOf l)) _ (thousandths-ranged l) (first-ranged n (rest []))
+first-ranged (suc n) (piece l p) = and-both (inRange (thousandthsOf l)) _ (thousandths-ranged l) (first-ranged n p)
+
+line-ranged : (state : ReaderState) (role : Role) (l : List ℕ) → T (every inRange (vertexRecords state role l))
+unfolding vertexRecords vertexRecord
+line-ranged state VertexLine l = first-ranged vertexWidth (fieldsOf l)
+line-ranged state ElementLine l = tt
+line-ranged state EndLine l = tt
+line-ranged state UnknownLine l = tt
+
+pub records-ranged : (state : ReaderState) (p : Pieces) → T (every inRange (recordsFrom vertexRecords state p))
+unfolding recordsFrom
+records-ranged state (rest l) = tt
+records-ranged state (piece l p) =
+    every-append inRange (vertexRecords state (roleOf (markOf l)) l) (recordsFrom vertexRecords (after state l) p)
+    (line-ranged state (roleOf (markOf l)) l) (records-ranged (after state l) p)
 
 -- ---- a vertex number that is read is between 1 and the vertex count
 
@@ -172,24 +179,7 @@ zero-at (suc n) (suc m) (piece l p) a (suc i) h = zero-at n m p (more-fields m l
 
 -- ---- the record of a line
 
--- nine numbers, a kind, vertex numbers up to a limit, the unused ones zero
-pub record Stored (limit : ℕ) (r : List ℕ) : Type 0 where
-  pub wide : length r ≡ elementWidth
-  pub kind : T (isKind (kindOf r))
-  pub inside : T (every (isNumber limit) (usedOf r))
-  pub unused : T (every (eqb 0) (spareOf r))
-
-vertex-wide : (state : ReaderState) (p : Pieces) → length (vertexRecord state p) ≡ vertexWidth
-unfolding vertexRecord
-vertex-wide state p = length-first thousandthsOf vertexWidth p
-
 module _ (state : ReaderState) (v : ℕ) (low : state .vertices ≤ v) (p : Pieces) where
-  vertex-ranged : areFields vertexWidth p ≡ true → fieldsVerdict state VertexLine p ≡ Passed → Ranged (vertexRecord state p)
-  unfolding vertexRecord
-  vertex-ranged a h =
-      let at = field-at state VertexLine thousandthsOf (λ z. inRange z ≡ true) (pos 0) (passed-range state) vertexWidth vertexWidth p a h in
-      record { x = at 0 (omega arith) (omega arith); y = at 1 (omega arith) (omega arith); z = at 2 (omega arith) (omega arith) }
-
   abbrev corner : ℕ → ℕ
   corner j = getD (numbersOf p) j 0
 
@@ -244,10 +234,6 @@ module _ (state : ReaderState) (v : ℕ) (low : state .vertices ≤ v) (p : Piec
 
 -- ---- the records of a table
 
--- P holds of each whole record of a table
-abbrev pub EachRecord : {A : Type 0} → ℕ → (List A → Type 0) → List A → Type 0
-EachRecord w P l = (i : ℕ) → w * suc i ≤ length l → P (take w (drop (w * i) l))
-
 record-more : {A : Type 0} (w : ℕ) (P : List A → Type 0) (r l : List A) → length r ≡ w → P r → EachRecord w P l → EachRecord w P (r ++ l)
 record-more w P r l e p h zero b = rw (mul-zero w, take-at r l w e) p
 record-more w P r l e p h (suc i) b =
@@ -259,7 +245,6 @@ record-more w P r l e p h (suc i) b =
 -- the vertices so far are not more than the file's, and each record that the lines left add is as it should be
 record Holding (v : ℕ) (state : ReaderState) (p : Pieces) : Type 0 where
   low : state .vertices ≤ v
-  ranged : EachRecord vertexWidth Ranged (recordsFrom vertexRecords state p)
   stored : EachRecord elementWidth (Stored v) (recordsFrom elementRecords state p)
 
 fields-there : (n : ℕ) (l : List ℕ) → badShape n l ≡ false → areFields n (fieldsOf l) ≡ true
@@ -277,19 +262,6 @@ grows state EndLine = le-refl (state .vertices)
 grows state UnknownLine = le-refl (state .vertices)
 
 module _ (state : ReaderState) (v : ℕ) (low : state .vertices ≤ v) (l : List ℕ) where
-  ranged-by : (m : Mark) → areFields (wants m) (fieldsOf l) ≡ true → fieldsVerdict state (roleOf m) (fieldsOf l) ≡ Passed → (more : List ℤ)
-      → EachRecord vertexWidth Ranged more → EachRecord vertexWidth Ranged (vertexRecords state (roleOf m) l ++ more)
-  unfolding vertexRecords
-  ranged-by Vx a h more g =
-      record-more vertexWidth Ranged (vertexRecord state (fieldsOf l)) more (vertex-wide state (fieldsOf l)) (vertex-ranged state v low (fieldsOf l) a h) g
-  ranged-by Te a h more g = g
-  ranged-by Py a h more g = g
-  ranged-by Pz a h more g = g
-  ranged-by Pr a h more g = g
-  ranged-by Hx a h more g = g
-  ranged-by En a h more g = g
-  ranged-by Unknown a h more g = g
-
   stored-more : (m : Mark) → markOf l ≡ m → roleOf m ≡ ElementLine → areFields (wants m) (fieldsOf l) ≡ true
       → fieldsVerdict state ElementLine (fieldsOf l) ≡ Passed → (more : List ℕ) → EachRecord elementWidth (Stored v) more
       → EachRecord elementWidth (Stored v) (elementRecord state (markOf l) (fieldsOf l) ++ more)
@@ -314,7 +286,6 @@ module _ (rooms : Rooms) (v n : ℕ) where
   unfolding recordsFrom
   last-holds state e = record {
     low = let q : v ≡ state .vertices = cc in omega arith;
-    ranged = λ i b. absurd (omega arith);
     stored = λ i b. absurd (omega arith);
   }
 
@@ -326,16 +297,9 @@ module _ (rooms : Rooms) (v n : ℕ) where
       let a = fields-there (wants (markOf l)) l (t .shaped) in
       record {
         low = low;
-        ranged = ranged-by state v low l (markOf l) a (t .passed) (recordsFrom vertexRecords (after state l) p) (h .ranged);
         stored = stored-by state v low l (markOf l) refl a (t .passed) (recordsFrom elementRecords (after state l) p) (h .stored);
       }
 
-  -- the records of an accepted file
-  pub record StoredRecords (file : List ℕ) : Type 0 where
-    pub ranged : EachRecord vertexWidth Ranged (recordsFrom vertexRecords start (linesOf file))
-    pub stored : EachRecord elementWidth (Stored v) (recordsFrom elementRecords start (linesOf file))
-
-  pub file-stored : (file : List ℕ) → fileVerdict rooms file ≡ accepted (v ∷ n ∷ []) → StoredRecords file
-  file-stored file e =
-      let h = accepted-holds rooms (v ∷ n ∷ []) (Holding v) last-holds line-holds file e .1 in
-      record { ranged = h .ranged; stored = h .stored }
+  -- each element record of an accepted file
+  pub file-stored : (file : List ℕ) → fileVerdict rooms file ≡ accepted (v ∷ n ∷ []) → EachRecord elementWidth (Stored v) (recordsFrom elementRecords start (linesOf file))
+  file-stored file e = accepted-holds rooms (v ∷ n ∷ []) (Holding v) last-holds line-holds file e .1 .stored
