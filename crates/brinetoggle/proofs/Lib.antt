@@ -1,7 +1,4 @@
 -- What is proved of the program.
 pub mod ReadingLaws
 pub mod RespondingLaws
-pub mod SpotLaws
-pub mod ReadRecordLaws
-pub mod CutSpotLaws
 pub mod Theorems

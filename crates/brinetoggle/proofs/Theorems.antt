@@ -2,12 +2,10 @@
 --   first-bytes-enough   what it reads of a file, 65,537 bytes at most, tells its output for the whole file
 --   response-right       what it has to write is what the page says for the whole file
 --   response-unique      two responses to one input have the same bytes to write, and the same verdict
---   read-spot            where reading refused, the words name the line of the refusal, or the file where it is too long
---   cut-spot             where cutting refused a file that reading accepted, they name the element, or both elements of JOIN
 -- Assumes nothing.
 use Prim.Native.Nat.{ℕ, _<_}
 use mathlib.Core.Path.{_≡_, refl, sym, ap, _∙_}
-use mathlib.Core.Bool.{Bool, true, false, cond}
+use mathlib.Core.Bool.{Bool, true, false}
 use mathlib.Core.List.{List}
 use native.Mathlib.Omega.{arith}
 use borrow.Author.Tests.{lt-ltb, ltb-true, ltb-false}
@@ -16,18 +14,12 @@ use lib.ListN.{length, take}
 use lib.Seq.{take-all, length-take-le}
 use Rattle.limits.specs.Limits.{fileLimit}
 use Rattle.faults.specs.declared.Fault.the-variants as fault
-use Rattle.faults.specs.declared.Refusal.{Refusal}
-use Rattle.faults.specs.Refusals.{accepted, refused, refuse}
+use Rattle.faults.specs.Refusals.{refused, refuse}
 use Rattle.format.specs.File.{fileVerdict}
-use Rattle.format.specs.declared.Rooms.{Rooms}
-use Rattle.converting.specs.Conversion.{rooms, conversion, programOutput}
+use Rattle.converting.specs.Conversion.{conversion, programOutput}
 use Rattle.brinetoggle.specs.Reading.{inputRoom}
-use Rattle.faults.specs.Spots.{subjectOf, tableSpot, spotOf, refuserOf}
-use Rattle.faults.specs.declared.Spot.the-variants.{Whole, Line}
 use Rattle.brinetoggle.specs.Responding.{lengthOf, verdictIn, Responded}
 use Rattle.brinetoggle.specs.declared.responding.Response.{Response}
-use Rattle.brinetoggle.proofs.SpotLaws as SpotLaws
-use Rattle.brinetoggle.proofs.CutSpotLaws as CutSpotLaws
 
 -- ---- the first 65,537 bytes are enough
 
@@ -62,15 +54,3 @@ module _ (input : List ℕ) (r r′ : Response) (output output′ : List ℕ) wh
 
   pub response-unique : Responded input r output → Responded input r′ output′ → Same
   response-unique h g = record { bytes = h .bytes ∙ sym (g .bytes); verdict = h .verdict ∙ sym (g .verdict) }
-
--- ---- where a refusal lies, in the words of the program
-
--- where reading refused: the file itself where it is too long, else the line that the refusal names
-pub read-spot : (rooms : Rooms) (file : List ℕ) (r : Refusal) → fileVerdict rooms file ≡ refused r
-    → spotOf (refuserOf (r .fault)) r ≡ cond (ltb fileLimit (length file)) Whole (Line (r .place))
-read-spot = SpotLaws.read-spot
-
--- where cutting refused what reading accepted: both elements of JOIN, else the element that the refusal names
-pub cut-spot : (input counts : List ℕ) (r : Refusal) → fileVerdict rooms input ≡ accepted counts → conversion input ≡ refused r
-    → spotOf (refuserOf (r .fault)) r ≡ tableSpot (subjectOf (r .fault)) r
-cut-spot = CutSpotLaws.cut-spot

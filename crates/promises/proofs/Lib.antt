@@ -5,6 +5,9 @@ pub mod RelistedRecords
 pub mod ReorderedTables
 pub mod CutOfCutTables
 pub mod SurfaceOfTables
+pub mod ReadSpotLaws
+pub mod ReadRecordLaws
+pub mod CutSpotLaws
 pub mod Theorems
 pub mod ReadBackNumbers
 pub mod ReadBackLines

@@ -3,19 +3,22 @@
 --   v, n, t     the vertex count, the element count and the element table that an entry is given; es its elements where it is accepted
 --   old, new    the lent output before and after a cut
 use mathlib.Core.Path.{_≡_, subst}
+use mathlib.Core.Bool.{cond}
 use mathlib.Core.List.{List, [], _++_, map, List·Memᴰ}
 use mathlib.Core.Logic.{_≢_}
 use Prim.Native.Nat.{ℕ, _+_, _*_, _≤_, _<_}
-use lib.Dec.{T}
+use lib.Dec.{T, ltb}
 use lib.IntN.{ℤ}
 use lib.ListN.{length, getD}
-use Rattle.limits.specs.Limits.{elementLimit, elementWidth}
+use Rattle.limits.specs.Limits.{fileLimit, elementLimit, elementWidth}
 use Rattle.laws.specs.Words.{every, among}
 use Rattle.laws.specs.Lent.{laid}
 use Rattle.laws.proofs.EveryLaws.{every-implies}
 use Rattle.laws.proofs.TestLaws.{and-left}
 use Rattle.faults.specs.declared.Refusal.{Refusal}
 use Rattle.faults.specs.Refusals.{accepted, refused, andThen}
+use Rattle.faults.specs.Spots.{subjectOf, tableSpot, spotOf, refuserOf}
+use Rattle.faults.specs.declared.Spot.the-variants.{Whole, Line}
 use Rattle.solids.specs.Solids.{Place, Vertex, Face, four, Tet, Element, ofFace, ofTet, facesOf}
 use Rattle.solids.specs.Rotations.{isRotation}
 use Rattle.solids.specs.Cut.{cutFace, cut, cutMesh}
@@ -41,7 +44,12 @@ use Rattle.judging.proofs.Theorems.{judge-unique, accepted-proper, accepted-sur
 use Rattle.mesh.proofs.Theorems.{cut-unique}
 use Rattle.signs.proofs.Theorems.{sign-unique, one-cut}
 use Rattle.promises.specs.Tables.{RecordRelisted, TableRelisted, relistedRecord, relistedTable, TableReordered, reordered, blocksInOrder, asTable, BeginsWith, tetrahedraIn, SurfaceIsCut}
+use Rattle.format.specs.File.{fileVerdict}
+use Rattle.format.specs.declared.Rooms.{Rooms}
+use Rattle.converting.specs.Conversion.{rooms, conversion}
 use Rattle.promises.proofs.AnswerLaws as AnswerLaws
+use Rattle.promises.proofs.ReadSpotLaws as ReadSpotLaws
+use Rattle.promises.proofs.CutSpotLaws as CutSpotLaws
 use Rattle.promises.proofs.RelistedTables as RelistedTables
 use Rattle.promises.proofs.RelistedRecords as RelistedRecords
 use Rattle.promises.proofs.ReorderedTables as ReorderedTables
@@ -240,3 +248,15 @@ no-coordinate vertices vertices′ = cut-unique
 pub signs-of-one-cut : (v n : ℕ) (t : List ℕ) (vertices : List ℤ) (c : SignCounts) → SignDone v n t vertices (sign.Done c)
     → c .positive + c .zero + c .negative ≡ length (cutMesh (firstElements t n))
 signs-of-one-cut = one-cut
+
+-- ---- where a refusal lies, in the words of a person
+
+-- where reading refused: the file itself where it is too long, else the line that the refusal names
+pub read-spot : (lent : Rooms) (file : List ℕ) (r : Refusal) → fileVerdict lent file ≡ refused r
+    → spotOf (refuserOf (r .fault)) r ≡ cond (ltb fileLimit (length file)) Whole (Line (r .place))
+read-spot = ReadSpotLaws.read-spot
+
+-- where cutting refused what reading accepted: both elements of JOIN, else the element that the refusal names
+pub cut-spot : (input counts : List ℕ) (r : Refusal) → fileVerdict rooms input ≡ accepted counts → conversion input ≡ refused r
+    → spotOf (refuserOf (r .fault)) r ≡ tableSpot (subjectOf (r .fault)) r
+cut-spot = CutSpotLaws.cut-spot

@@ -28,7 +28,7 @@ use Rattle.format.proofs.AcceptedFileLaws.{file-fits}
 use Rattle.converting.specs.Conversion.{rooms, cutRoom, conversion}
 use Rattle.faults.specs.Spots.{subjectOf, tableSpot, spotOf, refuserOf}
 use Rattle.faults.specs.declared.Refuser.the-variants.{Judging}
-use Rattle.brinetoggle.proofs.ReadRecordLaws.{NoStray, file-sound}
+use Rattle.promises.proofs.ReadRecordLaws.{NoStray, file-sound}
 
 -- a fault that is judging's, at an element
 record OfElements (r : Refusal) : Type 0 where
