@@ -18,7 +18,7 @@ use Rattle.laws.proofs.TestLaws.{and-left}
 use Rattle.faults.specs.declared.Refusal.{Refusal}
 use Rattle.faults.specs.Refusals.{accepted, refused, andThen}
 use Rattle.faults.specs.Spots.{subjectOf, tableSpot, spotOf, refuserOf}
-use Rattle.faults.specs.declared.Spot.the-variants.{Whole, Line}
+use Rattle.faults.specs.declared.Spot.the-variants as spot
 use Rattle.solids.specs.Solids.{Place, Vertex, Face, four, Tet, Element, ofFace, ofTet, facesOf}
 use Rattle.solids.specs.Rotations.{isRotation}
 use Rattle.solids.specs.Cut.{cutFace, cut, cutMesh}
@@ -253,7 +253,7 @@ signs-of-one-cut = one-cut
 
 -- where reading refused: the file itself where it is too long, else the line that the refusal names
 pub read-spot : (lent : Rooms) (file : List ℕ) (r : Refusal) → fileVerdict lent file ≡ refused r
-    → spotOf (refuserOf (r .fault)) r ≡ cond (ltb fileLimit (length file)) Whole (Line (r .place))
+    → spotOf (refuserOf (r .fault)) r ≡ cond (ltb fileLimit (length file)) spot.Whole (spot.Line (r .place))
 read-spot = ReadSpotLaws.read-spot
 
 -- where cutting refused what reading accepted: both elements of JOIN, else the element that the refusal names
