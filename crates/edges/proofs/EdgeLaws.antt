@@ -19,7 +19,7 @@ use Rattle.solids.specs.declared.Solid.the-variants.{Tetrahedron, Pyramid, Pris
 use Rattle.solids.specs.Solids.{Face, three, four, Edge, edge, element, faces, at, onFace, ends, edgesOf, elementEdges}
 use Rattle.solids.specs.Fit.{sameSet, hasEdge}
 use Rattle.solids.proofs.SetLaws.{among-first, among-later, same-set, set-there, set-back}
-use Rattle.edges.specs.EdgeLoops.{joined, somePlace, endsAt, startsAt}
+use Rattle.edges.specs.EdgeLoops.{joined, Standing, somePlace, endsAt, startsAt}
 
 -- ---- two vertices as ends
 
@@ -244,3 +244,11 @@ module _ (s : Solid) (vs : List ℕ) where
         go : (b : Bool) → hasEdge (u ∷ v ∷ []) (element s vs) ≡ b → somePlace (startsAt s vs u v) ≡ hasEdge (u ∷ v ∷ []) (element s vs)
         go true e = T-true _ (there (true-T e)) ∙ sym e
         go false e = no-place (startsAt s vs u v) (λ p l h. reached p h (λ q a b j. subst T e (back p q a b j))) ∙ sym e
+
+    -- joined places at which the two stand
+    pub edge-held : {p q : ℕ} → Standing u vs p → Standing v vs q → joined s p q ≡ true → true ≡ hasEdge (u ∷ v ∷ []) (element s vs)
+    edge-held {p} {q} a b e =
+        let i = joined-places s p q (true-T e) in
+        let h : 0 < p = ltb→lt 0 p (and-left (ltb 0 p) (ltb p 9) (i .0)) in
+        let k : 0 < q = ltb→lt 0 q (and-left (ltb 0 q) (ltb q 9) (i .1)) in
+        sym (T-true _ (back p q (a .here h) (b .here k) (true-T e)))

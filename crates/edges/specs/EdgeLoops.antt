@@ -1,7 +1,8 @@
 -- Edges by their places, as the private functions look them up; proofs/EdgeTableLaws.antt and proofs/EdgeLaws.antt say that they are the page's edges.
 use mathlib.Core.Bool.{Bool, cond, not, _&&_}
 use mathlib.Core.List.{List, [], _∷_, map}
-use Prim.Native.Nat.{ℕ}
+use mathlib.Core.Path.{_≡_}
+use Prim.Native.Nat.{ℕ, _<_}
 use lib.Dec.{eqb}
 use Rattle.laws.specs.Words.{some, gather}
 use Rattle.laws.specs.Searches.{least}
@@ -28,6 +29,11 @@ firstEdge Tetrahedron = 0
 firstEdge Pyramid = 9
 firstEdge Prism = 18
 firstEdge Hexahedron = 27
+
+-- a place at which the vertex stands, or 0
+pub record Standing (v : Vertex) (vs : List Vertex) (p : Place) : Type 0 where
+  pub low : p < 9
+  pub here : 0 < p → at vs p ≡ v
 
 -- one of the places passes the test
 abbrev pub somePlace : (Place → Bool) → Bool

@@ -1,11 +1,12 @@
 // Edges by their places: whether two vertices are the ends of an edge of an element.
 ghost use mathlib.Core.Path.{_≡_};
 ghost use mathlib.Core.List.{[], _∷_};
-ghost use Prim.Native.Nat.{_<_};
-ghost use lib.ListN.{getD};
+ghost use mathlib.Core.Bool.{true};
+ghost use Prim.Native.Nat.{_≤_, _<_};
+ghost use lib.ListN.{length, getD};
 ghost use Rattle.solids.specs.Solids.{element};
 ghost use Rattle.solids.specs.Fit.{hasEdge};
-ghost use Rattle.edges.specs.EdgeLoops.{joined, edgeRows, firstEdge, somePlace, endsAt, startsAt};
+ghost use Rattle.edges.specs.EdgeLoops.{joined, edgeRows, firstEdge, Standing, somePlace, endsAt, startsAt};
 use solids::Place;
 use solids::Solid;
 use solids::Vertex;
@@ -116,8 +117,33 @@ fn starts_at(solid: Solid, corners: &[u16], u: Vertex, v: Vertex, p: Place) -> b
     reaches(solid, corners, p, v)
 }
 
-// Two vertices are the ends of an edge of the element.
-pub fn has_edge(u: Vertex, v: Vertex, solid: Solid, corners: &[u16]) -> bool
+// The first place at which the vertex stands, or none.
+fn first_place(vertex: Vertex, corners: &[u16]) -> Place
+    requires { ⌜ length (now corners) ≤ 8 ⌝ }
+    ensures { λ r. ⌜ Standing (vertex .0) (now (corners .entry)) (r .0) ⌝ }
+{
+    let mut i = 0;
+    while i < corners.len() {
+        if vertex.0 == corners[i] {
+            return Place((i + 1) as u8);
+        }
+        i += 1;
+    }
+    Place(0)
+}
+
+// An edge joins the first places at which the two vertices stand.
+fn joins_first(u: Vertex, v: Vertex, solid: Solid, corners: &[u16]) -> bool
+    ensures { λ r. ⌜ (r ≡ true → true ≡ hasEdge (u .0 ∷ v .0 ∷ []) (element solid (now (corners .entry)))) ⌝ }
+{
+    if 8 < corners.len() {
+        return false;
+    }
+    are_joined(solid, first_place(u, corners), first_place(v, corners))
+}
+
+// An edge joins any places at which the two vertices stand.
+fn joins_any(u: Vertex, v: Vertex, solid: Solid, corners: &[u16]) -> bool
     ensures { λ r. ⌜ r ≡ hasEdge (u .0 ∷ v .0 ∷ []) (element solid (now (corners .entry))) ⌝ }
 {
     let mut p = 1;
@@ -128,4 +154,14 @@ pub fn has_edge(u: Vertex, v: Vertex, solid: Solid, corners: &[u16]) -> bool
         p += 1;
     }
     false
+}
+
+// Two vertices are the ends of an edge of the element; where each vertex stands once, the first places decide.
+pub fn has_edge(u: Vertex, v: Vertex, solid: Solid, corners: &[u16]) -> bool
+    ensures { λ r. ⌜ r ≡ hasEdge (u .0 ∷ v .0 ∷ []) (element solid (now (corners .entry))) ⌝ }
+{
+    if joins_first(u, v, solid, corners) {
+        return true;
+    }
+    joins_any(u, v, solid, corners)
 }
