@@ -7,10 +7,10 @@ use mathlib.Core.Path.{_≡_, refl, sym, _∙_}
 use mathlib.Core.Bool.{Bool, true, false, cond, _&&_, true≢false}
 use mathlib.Core.List.{List, [], _∷_, _++_, map}
 use lib.Dec.{T, eqb, ltb, leb, eqb→eq, ltb→lt, leb→le, lt→ltb, le→leb}
-use lib.ListN.{length, getD, drop, length-append}
+use lib.ListN.{length, getD, take, drop, length-append}
 use lib.Seq.{drop-drop, take-at, drop-at}
 use borrow.Author.Tests.{le-leb, leb-true, eqb-false, ltb-false, eq-eqb, not-false}
-use Rattle.limits.specs.Limits.{comma, minus, point, coordinateLimit, wholeDigits, space, vertexWidth, elementWidth, cornerWidth, markWidth}
+use Rattle.limits.specs.Limits.{comma, minus, coordinateLimit, space, vertexWidth, elementWidth, cornerWidth, markWidth}
 use Rattle.laws.specs.Pieces.{Pieces, rest, piece, split}
 use Rattle.laws.specs.Words.{every}
 use Rattle.laws.proofs.TestLaws.{true-T, T-true, and-right, and-both}
@@ -22,10 +22,10 @@ use Rattle.volume.specs.Volume.{inRange}
 use Rattle.records.specs.Record as record-of
 use Rattle.records.specs.Record.{kindOf, usedOf, spareOf, isKind}
 use Rattle.records.specs.WholeRecords.{isNumber}
-use Rattle.format.specs.Number.{cut, signed, millimetres, whole, decimals, unsigned, coordinateOf, thousandthsIn, thousandthsOf, valueIn, numberOf, valueOf}
+use Rattle.format.specs.Number.{cut, signed, millimetres, whole, unsigned, coordinateOf, thousandthsIn, thousandthsOf, valueIn, numberOf, valueOf}
 use Rattle.format.specs.Line.{markOf, roleOf, wants, fieldsOf, some, areFields, firstOf, numbersOf, judgeVertex, first, fieldVerdict, fieldsVerdict, badShape, afterRole, after}
 use Rattle.format.specs.File.{start, linesOf, fileVerdict}
-use Rattle.format.specs.Records.{vertexRecord, elementRecord, vertexRecords, elementRecords, recordsFrom}
+use Rattle.format.specs.Records.{vertexRecord, tipFirst, cornerFields, elementRecord, vertexRecords, elementRecords, recordsFrom}
 use Rattle.format.specs.StoredRecords.{Stored, EachRecord}
 use Rattle.format.specs.declared.Mark.{Mark}
 use Rattle.format.specs.declared.Mark.the-variants.{Vx, Te, Py, Pz, Pr, Hx, En, Unknown}
@@ -44,12 +44,12 @@ use Rattle.format.proofs.FileLaws.{Taken, accepted-holds}
 
 -- ---- a coordinate that is read is within the limits
 
-abbrev Ranged : Coordinate → Type 0
-Ranged c = T (inRange (thousandthsIn c))
+record Ranged (c : Coordinate) : Type 0 where
+  in-range : T (inRange (thousandthsIn c))
 
 wrong-ranged : (f : _) → Ranged (Wrong f)
 unfolding inRange
-wrong-ranged f = tt
+wrong-ranged f = record { in-range = tt }
 
 signed-ranged : (neg : Bool) (n : ℕ) → n ≤ coordinateLimit → T (inRange (signed neg n))
 unfolding inRange
@@ -62,7 +62,7 @@ unfolding millimetres
 millimetres-ranged neg (Of w) (Of f) = by (leb (w * 1000 + f) coordinateLimit) refl
   where
     by : (b : Bool) → leb (w * 1000 + f) coordinateLimit ≡ b → Ranged (cond b (Thousandths (signed neg (w * 1000 + f))) (Wrong fault.Range))
-    by true e = signed-ranged neg (w * 1000 + f) (leb-true _ _ e)
+    by true e = record { in-range = signed-ranged neg (w * 1000 + f) (leb-true _ _ e) }
     by false e = wrong-ranged fault.Range
 millimetres-ranged neg (Of w) Not = wrong-ranged fault.Number
 millimetres-ranged neg Not (Of f) = wrong-ranged fault.Number
@@ -70,18 +70,22 @@ millimetres-ranged neg Not Not = wrong-ranged fault.Number
 
 unsigned-ranged : (neg : Bool) (p : Pieces) → Ranged (unsigned neg p)
 unfolding unsigned
-unsigned-ranged neg (rest w) = millimetres-ranged neg (whole wholeDigits w) (Of 0)
-unsigned-ranged neg (piece w (rest f)) = millimetres-ranged neg (whole wholeDigits w) (decimals f)
+unsigned-ranged neg (rest w) = millimetres-ranged neg _ _
+unsigned-ranged neg (piece w (rest f)) = millimetres-ranged neg _ _
 unsigned-ranged neg (piece w (piece f p)) = wrong-ranged fault.Number
+
+-- of two coordinates that are, the one that a test picks is
+either-ranged : (b : Bool) (c d : Coordinate) → Ranged c → Ranged d → Ranged (cond b c d)
+either-ranged true c d f g = f
+either-ranged false c d f g = g
 
 thousandths-ranged : (l : List ℕ) → T (inRange (thousandthsOf l))
 unfolding thousandthsOf coordinateOf
-thousandths-ranged l = by (cut (split comma l)) (eqb (getD l 0 0) minus)
-  where
-    by : (a b : Bool) → Ranged (cond a (Wrong fault.Comma) (cond b (unsigned true (split point (drop 1 l))) (unsigned false (split point l))))
-    by true b = wrong-ranged fault.Comma
-    by false true = unsigned-ranged true (split point (drop 1 l))
-    by false false = unsigned-ranged false (split point l)
+thousandths-ranged l =
+    let c : Ranged (coordinateOf l) =
+    either-ranged (cut (split comma l)) _ _ (wrong-ranged fault.Comma)
+    (either-ranged (eqb (getD l 0 0) minus) _ _ (unsigned-ranged true _) (unsigned-ranged false _)) in
+    c .in-range
 
 first-ranged : (n : ℕ) (p : Pieces) → T (every inRange (firstOf thousandthsOf n p))
 unfolding firstOf
@@ -201,32 +205,32 @@ module _ (state : ReaderState) (v : ℕ) (low : state .vertices ≤ v) (p : Piec
   element-stored Te e a h = record {
     wide = refl;
     kind = tt;
-    inside = corners-inside 4 (omega arith) a h (0 ∷ 1 ∷ 2 ∷ 3 ∷ []) tt;
-    unused = corners-zero 4 (omega arith) a h (4 ∷ 5 ∷ 6 ∷ 7 ∷ []) tt;
+    inside = corners-inside 4 (omega arith) a h (take 4 (cornerFields (tipFirst Te))) tt;
+    unused = corners-zero 4 (omega arith) a h (drop 4 (cornerFields (tipFirst Te))) tt;
   }
   element-stored Py e a h = record {
     wide = refl;
     kind = tt;
-    inside = corners-inside 5 (omega arith) a h (0 ∷ 1 ∷ 2 ∷ 3 ∷ 4 ∷ []) tt;
-    unused = corners-zero 5 (omega arith) a h (5 ∷ 6 ∷ 7 ∷ []) tt;
+    inside = corners-inside 5 (omega arith) a h (take 5 (cornerFields (tipFirst Py))) tt;
+    unused = corners-zero 5 (omega arith) a h (drop 5 (cornerFields (tipFirst Py))) tt;
   }
   element-stored Pz e a h = record {
     wide = refl;
     kind = tt;
-    inside = corners-inside 5 (omega arith) a h (1 ∷ 2 ∷ 3 ∷ 4 ∷ 0 ∷ []) tt;
-    unused = corners-zero 5 (omega arith) a h (5 ∷ 6 ∷ 7 ∷ []) tt;
+    inside = corners-inside 5 (omega arith) a h (take 5 (cornerFields (tipFirst Pz))) tt;
+    unused = corners-zero 5 (omega arith) a h (drop 5 (cornerFields (tipFirst Pz))) tt;
   }
   element-stored Pr e a h = record {
     wide = refl;
     kind = tt;
-    inside = corners-inside 6 (omega arith) a h (0 ∷ 1 ∷ 2 ∷ 3 ∷ 4 ∷ 5 ∷ []) tt;
-    unused = corners-zero 6 (omega arith) a h (6 ∷ 7 ∷ []) tt;
+    inside = corners-inside 6 (omega arith) a h (take 6 (cornerFields (tipFirst Pr))) tt;
+    unused = corners-zero 6 (omega arith) a h (drop 6 (cornerFields (tipFirst Pr))) tt;
   }
   element-stored Hx e a h = record {
     wide = refl;
     kind = tt;
-    inside = corners-inside 8 (omega arith) a h (0 ∷ 1 ∷ 2 ∷ 3 ∷ 4 ∷ 5 ∷ 6 ∷ 7 ∷ []) tt;
-    unused = corners-zero 8 (omega arith) a h [] tt;
+    inside = corners-inside 8 (omega arith) a h (take 8 (cornerFields (tipFirst Hx))) tt;
+    unused = corners-zero 8 (omega arith) a h (drop 8 (cornerFields (tipFirst Hx))) tt;
   }
   element-stored Vx e a h = let z : _≡_ {A = ℕ} 0 1 = cc in absurd (omega arith)
   element-stored En e a h = let z : _≡_ {A = ℕ} 0 1 = cc in absurd (omega arith)

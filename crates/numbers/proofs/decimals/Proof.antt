@@ -58,14 +58,11 @@ enum-told c = search needs
 returns-5 : tie.Need-returns-5
 unfolding decimals
 returns-5 c =
-    let args = c .before .before .before .before .before .before .before .before .before .args in
-    let if1 = c .before .before .before .before .before .before .before .if1 in
-    let if2 = c .before .before .before .before .before .before .if2 in
+    let few = c .before .before .before .before .before .before in
     let digits = c .before .before .before .before .before .digits in
     let f = c .before .before .before .f in
-    let t = args .t .now in
-    let h : length t ≡ 3 =
-    omega (arith, if1 .left, if2 .left, c .before .if3 .left, c .if4 .left) in
+    let h : length (few .before .before .before .args .t .now) ≡ 3 =
+    omega (arith, few .before .if1 .left, few .if2 .left, c .before .if3 .left, c .if4 .left) in
     rw (h, ← digits .ensures, f .given .1, mul-one)
 
 returns-6 : tie.Need-returns-6

@@ -9,6 +9,10 @@ use borrow.Author.Needs.{needs}
 use Rattle.numbers.proofs.unsigned.Statement.{statement}
 use Rattle.numbers.proofs.unsigned.Tie as tie
 
+-- a point was found
+inside : (c : tie.Else1) → c .before .find .result < length (c .before .before .before .args .t .now)
+inside c = omega (arith, c .before .find .ensures .high, c .if1 .left)
+
 find-requires : tie.Need-find-requires
 find-requires c κs = search needs
 
@@ -34,13 +38,8 @@ find-requires-2 c κs = search needs
 returns-2 : tie.Need-returns-2
 unfolding unsigned
 returns-2 c =
-    let args = c .before .before .before .before .before .before .args in
-    let find = c .before .before .before .before .find in
-    let if1 = c .before .before .before .if1 in
-    let past = c .before .before .past in
-    let h : find .result < length (args .t .now) =
-    omega (arith, find .ensures .high, if1 .left) in
-    rw (find .ensures .hit h, ← past .ensures, c .before .find2 .ensures .hit (c .if2 .taken))
+    let k = c .before .before .before in
+    rw (k .before .find .ensures .hit (inside k), ← c .before .before .past .ensures, c .before .find2 .ensures .hit (c .if2 .taken))
 
 until-requires : tie.Need-until-requires
 until-requires c κs = search needs
@@ -57,20 +56,14 @@ millimetres-requires-2 c κs = search needs
 returns-3 : tie.Need-returns-3
 unfolding unsigned
 returns-3 c =
-    let args = c .before .before .before .before .before .before .before .before .before .before .args in
-    let find = c .before .before .before .before .before .before .before .before .find in
-    let if1 = c .before .before .before .before .before .before .before .if1 in
-    let past = c .before .before .before .before .before .before .past in
-    let find2 = c .before .before .before .before .before .find2 in
-    let if2 = c .before .before .before .before .if2 in
     let until = c .before .before .before .until in
     let whole2 = c .before .before .whole2 in
-    let h : find .result < length (args .t .now) =
-    omega (arith, find .ensures .high, if1 .left) in
+    let single = c .before .before .before .before in
+    let k = single .before .before .before in
     rw (
-      find .ensures .hit h,
-      ← past .ensures,
-      find2 .ensures .miss (if2 .left),
+      k .before .find .ensures .hit (inside k),
+      ← single .before .before .past .ensures,
+      single .before .find2 .ensures .miss (single .if2 .left),
       ← until .ensures,
       ← whole2 .ensures,
       ← c .before .decimals .ensures,

@@ -18,6 +18,13 @@ Inv-loop file rooms vertices₀ elements₀ t₀ state₀ n₀ vertices elements
 abbrev μ-loop : tie.MeasureT-loop
 μ-loop file rooms vertices₀ elements₀ t₀ state₀ n₀ vertices elements t state n = length t
 
+-- back to where the line is read, and to the turn that it is read in
+abbrev turn : tie.After-read-line Inv-loop μ-loop → tie.In-loop Inv-loop μ-loop
+turn c = c .before .before .before
+
+abbrev taken : tie.After-from Inv-loop μ-loop → tie.After-read-line Inv-loop μ-loop
+taken c = c .before .before .before .before
+
 refused-requires : tie.Need-refused-requires Inv-loop μ-loop
 refused-requires c κs = search needs
 
@@ -42,8 +49,8 @@ refused-requires-2 c κs = search needs
 
 returns-2 : tie.Need-returns-2 Inv-loop μ-loop
 returns-2 c =
-    let l = c .before .before .before .before .before .before .before .before .loop in
-    reading-refused _ _ (l .inv) _ _ (c .refused2 .ensures) (rw (c .before .before .fault .given .1) at (c .before .before .before .before .read-line .ensures)) _ _
+    let k = c .before .before .before .before in
+    reading-refused _ _ (turn k .before .loop .inv) _ _ (c .refused2 .ensures) (rw (c .before .before .fault .given .1) at (k .read-line .ensures)) _ _
 
 enum-known-next : tie.Need-enum-known-next Inv-loop μ-loop
 enum-known-next c = search needs
@@ -53,8 +60,8 @@ from-requires c κs = search needs
 
 add-n : tie.Need-add-n Inv-loop μ-loop
 add-n c =
-    let l = c .before .before .before .before .before .before .before .before .loop in
-    record { fits = omega (arith, l .inv .lines, l .inv .short, c .before .before .before .before .before .before .before .loop-test .taken) }
+    let k = turn (taken c) in
+    record { fits = omega (arith, k .before .loop .inv .lines, k .before .loop .inv .short, k .loop-test .taken) }
 
 loop-less : tie.Need-loop-less Inv-loop μ-loop
 loop-less c =
@@ -63,8 +70,7 @@ loop-less c =
 
 loop-again : tie.Need-loop-again Inv-loop μ-loop
 loop-again c =
-    let l = c .before .before .before .before .before .before .before .before .loop in
-    reading-more _ _ (l .inv) _ _ _ _ _ (rw (c .before .before .next .given .1) at (c .before .before .before .before .read-line .ensures)) (c .from .ensures)
+    reading-more _ _ (turn (taken c) .before .loop .inv) _ _ _ _ _ (rw (c .before .before .next .given .1) at (c .before .before .before .before .read-line .ensures)) (c .from .ensures)
 
 at-end-requires : tie.Need-at-end-requires Inv-loop μ-loop
 at-end-requires c κs = search needs

@@ -7,6 +7,16 @@ use borrow.Author.Needs.{needs}
 use Rattle.text.proofs.quick.quick_number.Statement.{statement}
 use Rattle.text.proofs.quick.quick_number.Tie as tie
 
+-- ---- the way through the tests
+
+abbrev digits : tie.Else4 → tie.After-quick-whole
+digits c = c .before .before .before .before .before
+
+abbrev start : tie.After-quick-whole → tie.Start
+start c = c .before .before
+
+-- ---- the needs
+
 quick-whole-requires : tie.Need-quick-whole-requires
 quick-whole-requires c κs = search needs
 
@@ -30,17 +40,18 @@ returns-4 c = λ h. absurd (h refl)
 
 add-t9 : tie.Need-add-t9
 add-t9 c =
-    let t = c .before .before .before .before .before .before .before .args .t .now in
-    let h : c .before .before .before .before .before .quick-whole .result .next < length t =
-    place-inside t _ (rw (← c .before .byte-at .ensures, c .if4 .left) (c .before .before .before .before .before .before .before .pre)) in
+    let s = start (digits c) in
+    let h : digits c .quick-whole .result .next < length (s .args .t .now) =
+    place-inside (s .args .t .now) _ (rw (← c .before .byte-at .ensures, c .if4 .left) (s .pre)) in
     search needs
 
 returns-5 : tie.Need-returns-5
 returns-5 c =
-    let a = c .before .before .before .before .before .before .before .args in
+    let s = start (digits c) in
+    let a = s .args in
     λ h.
-    number-at (a .t .now) (a .i) (a .stop) (a .count) _ _ (c .before .before .before .before .before .quick-whole .ensures (c .before .before .before .before .if1 .left)) (c .before .before .before .if2 .left) (c .before .before .if3 .left)
-    (sym (c .before .byte-at .ensures) ∙ c .if4 .left) (c .before .before .before .before .before .before .before .pre)
+    number-at (a .t .now) (a .i) (a .stop) (a .count) _ _ (digits c .quick-whole .ensures (c .before .before .before .before .if1 .left))
+    (c .before .before .before .if2 .left) (c .before .before .if3 .left) (sym (c .before .byte-at .ensures) ∙ c .if4 .left) (s .pre)
 
 pub quick-number-spec : {M : Type 1} → statement M
 quick-number-spec =

@@ -26,6 +26,16 @@ Inv-loop s table₀ at t₀ k₀ table t k =
 abbrev μ-loop : tie.MeasureT-loop
 μ-loop s table₀ at t₀ k₀ table t k = vertexWidth - k
 
+-- ---- the way through a turn
+
+abbrev start : tie.In-loop Inv-loop μ-loop → tie.Start Inv-loop μ-loop
+start c = c .before .before .before .before
+
+abbrev turn : tie.After-put-coordinate-arg Inv-loop μ-loop → tie.In-loop Inv-loop μ-loop
+turn c = c .before .before
+
+-- ---- the needs
+
 mul-at : tie.Need-mul-at Inv-loop μ-loop
 mul-at c = omega (arith, c .before .before .pre .few)
 
@@ -36,9 +46,7 @@ find-requires : tie.Need-find-requires Inv-loop μ-loop
 find-requires c κs = search needs
 
 add-put-coordinate : tie.Need-add-put-coordinate Inv-loop μ-loop
-add-put-coordinate c =
-    let pre = c .before .before .before .before .before .before .pre in
-    omega (arith, pre .few)
+add-put-coordinate c = omega (arith, start (turn c) .pre .few)
 
 until-requires : tie.Need-until-requires Inv-loop μ-loop
 until-requires c κs = search needs
@@ -60,20 +68,19 @@ loop-less c = search needs
 
 loop-again : tie.Need-loop-again Inv-loop μ-loop
 loop-again c =
-    let loop-test = c .before .before .before .before .before .before .before .loop-test in
-    let find = c .before .before .before .before .before .before .find in
     let until = c .before .before .before .before .until in
     let thousandths = c .before .before .before .thousandths in
     let put-coordinate = c .before .before .put-coordinate in
-    let l = c .before .before .before .before .before .before .before .before .loop in
-    let a = c .before .before .before .before .before .before .before .before .before .before .before .args in
-    let h = loop-test .taken in
+    let asked = c .before .before .before .before .before in
+    let l = turn asked .before .loop in
+    let a = start (turn asked) .args in
+    let h = turn asked .loop-test .taken in
     let e : 3 * a .state .vertices + (l .k + 1) ≡ suc (3 * a .state .vertices + l .k) = omega arith in
     let q : vertexWidth - l .k ≡ suc (vertexWidth - (l .k + 1)) = omega arith in (
       put-coordinate .kept .0 ∙ l .inv .0,
       omega arith,
       l .inv .2
-          ∙ ap (sets (l .table) (3 * a .state .vertices + l .k)) (first-more thousandthsOf _ _ (find .ensures) _ _ q)
+          ∙ ap (sets (l .table) (3 * a .state .vertices + l .k)) (first-more thousandthsOf _ _ (asked .before .find .ensures) _ _ q)
           ∙ rw (c .past .ensures, e, put-coordinate .ensures, back _ (thousandths .ok), thousandths .ensures, until .ensures),
     )
 

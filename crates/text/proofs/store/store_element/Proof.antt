@@ -42,13 +42,9 @@ same-length c = search needs
 returns-2 : tie.Need-returns-2
 unfolding elementRecords fieldsOf
 returns-2 c =
-    let enum-told2 = c .before .before .before .before .before .before .before .before .enum-told2 in
-    let mark-of = c .before .before .before .before .before .before .before .mark-of in
-    let from = c .before .before .before .before .before .before .from in
-    let element-record = c .before .before .before .before .before .element-record in
-    let put-element = c .before .before .put-element in
-    rw (enum-told2 .given .1, ← mark-of .ensures, ← from .ensures, ← element-record .ensures)
-    (put-element .ensures)
+    let made = c .before .before .before .before .before in
+    rw (made .before .before .before .enum-told2 .given .1, ← made .before .before .mark-of .ensures, ← made .before .from .ensures, ← made .element-record .ensures)
+    (c .before .before .put-element .ensures)
 
 returns-3 : tie.Need-returns-3
 unfolding elementRecords
