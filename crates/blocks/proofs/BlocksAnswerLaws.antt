@@ -18,7 +18,7 @@ use Rattle.records.proofs.Theorems.{first-length}
 use Rattle.tets.specs.Tets.{keyOf}
 use Rattle.judging.specs.declared.JudgeAnswer.{JudgeAnswer}
 use Rattle.judging.specs.Judge.{judged, JudgeDone}
-use Rattle.judging.specs.JudgeLoops.{Judging}
+use Rattle.judging.specs.Judgement.{Judging}
 use Rattle.judging.proofs.Theorems.{judge-told, accepted-elements, accepted-few, accepted-tetrahedra}
 use Rattle.blocks.specs.declared.BlocksAnswer.{BlocksAnswer}
 use Rattle.blocks.specs.declared.BlocksAnswer.the-variants.{Done, Refused}

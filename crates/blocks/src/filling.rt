@@ -11,7 +11,7 @@ ghost use Rattle.records.specs.WholeRecords.{Whole, WholeTable};
 ghost use Rattle.blocks.specs.BlockLoops.{BlockIs, Stored, Filled};
 use crate::fans::fan_block;
 use crate::rows::row_block;
-use faces::corners_of;
+use records::corners_of;
 
 // The tetrahedra of a record's element, the hexahedron's by its row of the table of cuts, the others' by the rule; how many they are.
 fn fill_block(numbers: &[u16], cuts: &[u8; 1536], block: &mut [u64; 6]) -> usize

@@ -9,8 +9,9 @@ use Rattle.faults.specs.Refusals.{Verdict, recordsOf}
 use Rattle.judging.specs.Judge.{judged}
 use Rattle.mesh.specs.Cutting.{cutOf, flat}
 use Rattle.signs.specs.Signs.{signsOf}
-use Rattle.text.specs.File.{fileVerdict}
-use Rattle.text.specs.Records.{roomsOf, storedVertices, storedElements}
+use Rattle.format.specs.File.{fileVerdict}
+use Rattle.text.specs.Reading.{roomsOf}
+use Rattle.format.specs.Records.{storedVertices, storedElements}
 use Rattle.brine.specs.Front.{noValue, howMany, FrontAnswer, FrontDone}
 
 -- reading: two counts, and the file's records in both tables

@@ -6,6 +6,7 @@ mod told;
 
 use converting::convert;
 use judging::judge_mesh;
+use limits::ELEMENT_WIDTH;
 use mesh::cut_mesh;
 use signs::sign_report;
 use text::read_mesh;
@@ -93,7 +94,7 @@ pub extern "C" fn brine_write_vertex(
 // Writes the line of an element; the value is its length.
 #[no_mangle]
 pub extern "C" fn brine_write_element(
-    record: &[u16; 9],
+    record: &[u16; ELEMENT_WIDTH],
     buffer: &mut [u8],
     answer: &mut [u64; 4],
 ) -> u32

@@ -16,7 +16,7 @@ ghost use Rattle.judging.specs.Judge.{judgeVerdict};
 ghost use Rattle.mesh.specs.Cutting.{cutVerdict};
 ghost use Rattle.signs.specs.Signs.{signVerdict};
 ghost use Rattle.converting.specs.Converting.{convertVerdict};
-ghost use Rattle.text.specs.Records.{verdictOf};
+ghost use Rattle.text.specs.Reading.{verdictOf};
 ghost use Rattle.writing.specs.Writing.{writeVerdict};
 ghost use Rattle.brine.specs.FrontLoops.{longest, Tells};
 

@@ -5,7 +5,7 @@ use mathlib.Core.Path.{_≡_, refl, ap, subst}
 use mathlib.Core.Bool.{Bool, true, false, cond, not, _&&_}
 use mathlib.Core.List.{List}
 use native.Mathlib.Omega.{arith}
-use borrow.Author.Tests.{le-ltb, lt-ltb}
+use borrow.Author.Tests.{le-ltb, ltb-true, ne-eqb}
 use lib.Dec.{eqb, ltb}
 use lib.ListN.{length, getD}
 use Rattle.limits.specs.Limits.{elementLimit, tetrahedronWidth, vertexLimit, elementWidth}
@@ -13,31 +13,34 @@ use Rattle.laws.specs.Words as words
 use Rattle.faults.specs.declared.Fault.the-variants as fault
 use Rattle.faults.specs.declared.Finding.the-variants.{Clean, Found}
 use Rattle.faults.specs.declared.Refusal.{Refusal}
-use Rattle.faults.specs.Refusals.{Verdict, accepted, refused, numberOf, refuse, refusePair, refuseIf, andThen}
+use Rattle.faults.specs.Refusals.{Verdict, accepted, refused, refuse, refusePair, refuseIf, andThen}
 use Rattle.solids.specs.Solids.{Element}
 use Rattle.solids.specs.Cut.{cutMesh}
 use Rattle.records.specs.Record.{usedOf, spareOf, kindOf, isKind, notZero, recordFinding, recordAt, firstElements}
-use Rattle.judging.specs.Judge.{faultIn, badRecord, badElement, misfit, judged}
+use Rattle.tables.specs.JudgedRecords.{faultIn, badRecord}
+use Rattle.judging.specs.Judge.{badElement, misfit, judged}
+use Rattle.judging.proofs.TableVerdictLaws.{judged-by-tests}
 use Rattle.mesh.specs.Cutting.{cutOf}
 use Rattle.judging.proofs.Theorems.{accepted-tetrahedra}
-use Rattle.text.specs.File.{start, linesOf, fileVerdict}
-use Rattle.text.specs.Records.{elementRecords, recordsFrom, storedElements}
-use Rattle.text.proofs.AcceptedLaws.{file-fits}
+use Rattle.format.specs.File.{start, linesOf, fileVerdict}
+use Rattle.format.specs.Records.{elementRecords, recordsFrom, storedElements}
+use Rattle.format.proofs.AcceptedFileLaws.{file-fits}
 use Rattle.converting.specs.Conversion.{rooms, cutRoom, conversion}
-use Rattle.brinetoggle.specs.Words.{spotOf}
-use Rattle.brinetoggle.specs.declared.words.Spot.the-variants as spot
+use Rattle.faults.specs.Spots.{subjectOf, tableSpot, spotOf, refuserOf}
+use Rattle.faults.specs.declared.Refuser.the-variants.{Judging}
 use Rattle.brinetoggle.proofs.ReadRecordLaws.{NoStray, file-sound}
 
--- a fault of elements: KIND, SPARE, REPEAT or JOIN
+-- a fault that is judging's, at an element
 record OfElements (r : Refusal) : Type 0 where
-  late : 10 < numberOf (r .fault)
+  fault : refuserOf (r .fault) ≡ Judging
+  some : 0 < r .place
 
 abbrev AtElements : {A : Type 0} → Verdict A → Type 0
 AtElements (accepted x) = Unit {0}
 AtElements (refused r) = OfElements r
 
-at-if : {A : Type 0} (b : Bool) (r : Refusal) (next : Verdict A) → OfElements r → AtElements next → AtElements (refuseIf b r next)
-at-if true r next h g = h
+at-if : {A : Type 0} (b : Bool) (r : Refusal) (next : Verdict A) → (b ≡ true → OfElements r) → AtElements next → AtElements (refuseIf b r next)
+at-if true r next h g = h refl
 at-if false r next h g = g
 
 at-then : {A B : Type 0} (x : Verdict A) (f : A → Verdict B) → AtElements x → ((y : A) → x ≡ accepted y → AtElements (f y)) → AtElements (andThen x f)
@@ -47,25 +50,24 @@ at-then (refused r) f h g = h
 -- ---- cutting
 
 -- a record without a stray vertex
-finding-late : (v : ℕ) (r : List ℕ) → NoStray v r → 10 < numberOf (faultIn (recordFinding v r))
+finding-late : (v : ℕ) (r : List ℕ) → NoStray v r → refuserOf (faultIn (recordFinding v r)) ≡ Judging
 unfolding recordFinding
 finding-late v r h = rw (h .none) (go (not (eqb (length r) elementWidth && isKind (kindOf r))) (words.some notZero (spareOf r)) (not (words.distinct (usedOf r))))
   where
     go : (a b c : Bool)
-        → 10 < numberOf (faultIn (cond a (Found fault.Kind) (cond b (Found fault.Spare) (cond c (Found fault.Repeat) Clean))))
-    go true b c = omega arith
-    go false true c = omega arith
-    go false false true = omega arith
-    go false false false = omega arith
+        → refuserOf (faultIn (cond a (Found fault.Kind) (cond b (Found fault.Spare) (cond c (Found fault.Repeat) Clean)))) ≡ Judging
+    go true b c = refl
+    go false true c = refl
+    go false false true = refl
+    go false false false = refl
 
 module _ (v n : ℕ) (t : List ℕ) (vertices : v ≤ vertexLimit) (elements : n ≤ elementLimit) (long : elementWidth * n ≤ length t) (sound : (k : ℕ) → NoStray v (recordAt t k)) where
   judged-late : AtElements (judged v n t)
-  unfolding judged
   judged-late =
-      rw (le-ltb vertexLimit v vertices, le-ltb elementLimit n elements, le-ltb (length t) (elementWidth * n) long)
+      rw (judged-by-tests v n t, le-ltb vertexLimit v vertices, le-ltb elementLimit n elements, le-ltb (length t) (elementWidth * n) long)
       (at-if (ltb 0 (badRecord v t n)) (refuse (faultIn (recordFinding v (recordAt t (pred (badRecord v t n))))) (badRecord v t n)) _
-      (record { late = finding-late v (recordAt t (pred (badRecord v t n))) (sound (pred (badRecord v t n))) })
-      (at-if (ltb 0 (badElement t n)) (refusePair (badElement t n) (misfit t (pred (badElement t n)))) (accepted (firstElements t n)) (record { late = omega arith }) tt))
+      (λ e. record { fault = finding-late v (recordAt t (pred (badRecord v t n))) (sound (pred (badRecord v t n))); some = ltb-true 0 (badRecord v t n) e })
+      (at-if (ltb 0 (badElement t n)) (refusePair (badElement t n) (misfit t (pred (badElement t n)))) (accepted (firstElements t n)) (λ e. record { fault = refl; some = ltb-true 0 (badElement t n) e }) tt))
 
   cut-late : AtElements (cutOf v n t cutRoom)
   unfolding cutOf
@@ -91,9 +93,10 @@ conversion-late input counts e =
     (at-then (cutOf (getD counts 0 0) (getD counts 1 0) t cutRoom) _
     (cut-late (getD counts 0 0) (getD counts 1 0) t few small long (file-sound rooms counts input e)) (λ ts q. tt))
 
+-- the spot is that of tables: the element that the refusal names, or both elements of JOIN
 pub cut-spot : (input counts : List ℕ) (r : Refusal) → fileVerdict rooms input ≡ accepted counts → conversion input ≡ refused r
-    → spotOf r ≡ cond (eqb (numberOf (r .fault)) (numberOf fault.Join)) (spot.Elements (r .place) (r .second)) (spot.Element (r .place))
+    → spotOf (refuserOf (r .fault)) r ≡ tableSpot (subjectOf (r .fault)) r
 unfolding spotOf
 cut-spot input counts r e q =
     let h : OfElements r = subst AtElements q (conversion-late input counts e) in
-    rw (lt-ltb 10 (numberOf (r .fault)) (h .late))
+    rw (h .fault, ne-eqb (r .place) 0 (λ z. omega (arith, h .some)))

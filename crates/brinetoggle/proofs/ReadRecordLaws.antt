@@ -17,21 +17,21 @@ use Rattle.faults.specs.declared.Fault.{Fault}
 use Rattle.faults.specs.declared.Fault.the-variants as fault
 use Rattle.records.specs.Record.{kindOf, usedOf, strayVertex, recordAt}
 use Rattle.records.specs.Record as record-fields
-use Rattle.text.specs.Number.{numberOf, valueIn, valueOf}
-use Rattle.text.specs.Line.{markOf, wants, roleOf, fieldsOf, some, areFields, firstOf, judgeVertex, fieldVerdict, first, fieldsVerdict, badShape, afterRole, after}
-use Rattle.text.specs.File.{start, linesOf, fileVerdict}
-use Rattle.text.specs.Records.{tipFirst, cornerFields, elementRecord, elementRecords, recordsFrom}
-use Rattle.text.specs.declared.terms.Mark.{Mark}
-use Rattle.text.specs.declared.terms.Mark.the-variants.{Vx, Te, Py, Pz, Pr, Hx, En, Unknown}
-use Rattle.text.specs.declared.terms.Role.{Role}
-use Rattle.text.specs.declared.terms.Role.the-variants.{VertexLine, ElementLine, EndLine, UnknownLine}
-use Rattle.text.specs.declared.terms.Spelt.{Spelt}
-use Rattle.text.specs.declared.terms.Spelt.the-variants.{Of, Not}
-use Rattle.text.specs.declared.terms.Judged.{Judged}
-use Rattle.text.specs.declared.terms.Judged.the-variants.{Passed, Failed}
-use Rattle.text.specs.declared.terms.ReaderState.{ReaderState}
-use Rattle.text.specs.declared.terms.Rooms.{Rooms}
-use Rattle.text.proofs.FileLaws.{Taken, accepted-holds}
+use Rattle.format.specs.Number.{numberOf, valueIn, valueOf}
+use Rattle.format.specs.Line.{markOf, wants, roleOf, fieldsOf, some, areFields, firstOf, judgeVertex, fieldVerdict, first, fieldsVerdict, badShape, afterRole, after}
+use Rattle.format.specs.File.{start, linesOf, fileVerdict}
+use Rattle.format.specs.Records.{tipFirst, cornerFields, elementRecord, elementRecords, recordsFrom}
+use Rattle.format.specs.declared.Mark.{Mark}
+use Rattle.format.specs.declared.Mark.the-variants.{Vx, Te, Py, Pz, Pr, Hx, En, Unknown}
+use Rattle.format.specs.declared.Role.{Role}
+use Rattle.format.specs.declared.Role.the-variants.{VertexLine, ElementLine, EndLine, UnknownLine}
+use Rattle.format.specs.declared.Spelt.{Spelt}
+use Rattle.format.specs.declared.Spelt.the-variants.{Of, Not}
+use Rattle.format.specs.declared.Judged.{Judged}
+use Rattle.format.specs.declared.Judged.the-variants.{Passed, Failed}
+use Rattle.format.specs.declared.ReaderState.{ReaderState}
+use Rattle.format.specs.declared.Rooms.{Rooms}
+use Rattle.format.proofs.FileLaws.{Taken, accepted-holds}
 
 -- ---- fields
 

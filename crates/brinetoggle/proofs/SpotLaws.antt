@@ -1,59 +1,59 @@
 -- The faults that reading gives, and where: a line's fault is none of KIND, SPARE, REPEAT and JOIN, and a line's number is not 0.
 -- Assumes nothing.
-use Prim.Native.Nat.{ℕ, _+_, _*_, _≤_, _<_}
-use mathlib.Core.Path.{_≡_, subst}
+use Prim.Native.Nat.{ℕ, _+_, _*_, _<_}
+use mathlib.Core.Path.{_≡_, refl, subst}
 use mathlib.Core.Bool.{Bool, true, false, cond, not}
 use mathlib.Core.List.{List, [], _∷_}
 use native.Mathlib.Omega.{arith}
-use borrow.Author.Tests.{leb-true, le-ltb, ne-eqb}
-use lib.Dec.{T, eqb, leb, ltb}
+use borrow.Author.Tests.{ne-eqb}
+use lib.Dec.{eqb, leb, ltb}
 use lib.ListN.{length, getD, drop}
-use Rattle.laws.proofs.TestLaws.{T-true}
 use Rattle.laws.specs.Pieces.{Pieces, rest, piece, split}
 use Rattle.faults.specs.declared.Fault.{Fault}
 use Rattle.faults.specs.declared.Fault.the-variants as fault
 use Rattle.faults.specs.declared.Refusal.{Refusal}
-use Rattle.faults.specs.Refusals.{Verdict, accepted, refused, numberOf, refuse}
+use Rattle.faults.specs.Refusals.{Verdict, accepted, refused, refuse}
 use Rattle.limits.specs.Limits as limits
-use Rattle.text.specs.Number.{cut, whole, decimals, millimetres, unsigned, coordinateOf}
-use Rattle.text.specs.Number as number
-use Rattle.text.specs.Line.{markOf, roleOf, wants, fieldsOf, judgeCoordinate, judgeCount, judgeVertex, fieldVerdict, first, fieldsVerdict, badMark, tooMany, badShape, noRoom, badCounts, given, judged, lineVerdict}
-use Rattle.text.specs.File.{start, linesOf, atEnd, onward, fileFrom, fileVerdict}
-use Rattle.text.specs.declared.terms.Role.{Role}
-use Rattle.text.specs.declared.terms.Role.the-variants.{VertexLine, ElementLine, EndLine, UnknownLine}
-use Rattle.text.specs.declared.terms.Spelt.{Spelt}
-use Rattle.text.specs.declared.terms.Spelt.the-variants.{Of, Not}
-use Rattle.text.specs.declared.terms.Coordinate.{Coordinate}
-use Rattle.text.specs.declared.terms.Coordinate.the-variants.{Thousandths, Wrong}
-use Rattle.text.specs.declared.terms.Judged.{Judged}
-use Rattle.text.specs.declared.terms.Judged.the-variants.{Passed, Failed}
-use Rattle.text.specs.declared.terms.ReaderState.{ReaderState}
-use Rattle.text.specs.declared.terms.Rooms.{Rooms}
-use Rattle.text.specs.declared.terms.Line.{Line}
-use Rattle.text.specs.declared.terms.Line.the-variants.{Next, No}
-use Rattle.brinetoggle.specs.Words.{spotOf}
-use Rattle.brinetoggle.specs.declared.words.Spot.the-variants as spot
+use Rattle.format.specs.Number.{cut, whole, decimals, millimetres, unsigned, coordinateOf}
+use Rattle.format.specs.Number as number
+use Rattle.format.specs.Line.{markOf, roleOf, wants, fieldsOf, judgeCoordinate, judgeCount, judgeVertex, fieldVerdict, first, fieldsVerdict, badMark, tooMany, badShape, noRoom, badCounts, given, judged, lineVerdict}
+use Rattle.format.specs.File.{start, linesOf, atEnd, onward, fileFrom, fileVerdict}
+use Rattle.format.specs.declared.Role.{Role}
+use Rattle.format.specs.declared.Role.the-variants.{VertexLine, ElementLine, EndLine, UnknownLine}
+use Rattle.format.specs.declared.Spelt.{Spelt}
+use Rattle.format.specs.declared.Spelt.the-variants.{Of, Not}
+use Rattle.format.specs.declared.Coordinate.{Coordinate}
+use Rattle.format.specs.declared.Coordinate.the-variants.{Thousandths, Wrong}
+use Rattle.format.specs.declared.Judged.{Judged}
+use Rattle.format.specs.declared.Judged.the-variants.{Passed, Failed}
+use Rattle.format.specs.declared.ReaderState.{ReaderState}
+use Rattle.format.specs.declared.Rooms.{Rooms}
+use Rattle.format.specs.declared.Line.{Line}
+use Rattle.format.specs.declared.Line.the-variants.{Next, No}
+use Rattle.faults.specs.Spots.{spotOf, refuserOf}
+use Rattle.faults.specs.declared.Refuser.the-variants.{Reading}
+use Rattle.faults.specs.declared.Spot.the-variants as spot
 
--- the numbers up to 10: LONG to END
-abbrev ofReading : Fault → Bool
-ofReading f = leb (numberOf f) 10
+-- a fault that is reading's
+abbrev OfReading : Fault → Type 0
+OfReading f = refuserOf f ≡ Reading
 
 -- what a field, a line and a file may name
 abbrev InField : Coordinate → Type 0
 InField (Thousandths z) = Unit {0}
-InField (Wrong f) = T (ofReading f)
+InField (Wrong f) = OfReading f
 
 abbrev InFields : Judged → Type 0
 InFields Passed = Unit {0}
-InFields (Failed f) = T (ofReading f)
+InFields (Failed f) = OfReading f
 
 abbrev InLine : Line → Type 0
 InLine (Next state) = Unit {0}
-InLine (No f) = T (ofReading f)
+InLine (No f) = OfReading f
 
 -- a fault of reading, at a line
 record AtLine (r : Refusal) : Type 0 where
-  fault : T (ofReading (r .fault))
+  fault : OfReading (r .fault)
   line : 0 < r .place
 
 abbrev InLines : Verdict (List ℕ) → Type 0
@@ -69,21 +69,21 @@ choice P false x y p q = q
 millimetres-in : (neg : Bool) (w f : Spelt) → InField (millimetres neg w f)
 unfolding millimetres
 millimetres-in neg (Of w) (Of f) =
-    choice InField (leb (w * 1000 + f) limits.coordinateLimit) (Thousandths (number.signed neg (w * 1000 + f))) (Wrong fault.Range) tt tt
-millimetres-in neg (Of w) Not = tt
-millimetres-in neg Not (Of f) = tt
-millimetres-in neg Not Not = tt
+    choice InField (leb (w * 1000 + f) limits.coordinateLimit) (Thousandths (number.signed neg (w * 1000 + f))) (Wrong fault.Range) tt refl
+millimetres-in neg (Of w) Not = refl
+millimetres-in neg Not (Of f) = refl
+millimetres-in neg Not Not = refl
 
 unsigned-in : (neg : Bool) (p : Pieces) → InField (unsigned neg p)
 unfolding unsigned
 unsigned-in neg (rest w) = millimetres-in neg (whole limits.wholeDigits w) (Of 0)
 unsigned-in neg (piece w (rest f)) = millimetres-in neg (whole limits.wholeDigits w) (decimals f)
-unsigned-in neg (piece w (piece f p)) = tt
+unsigned-in neg (piece w (piece f p)) = refl
 
 coordinate-in : (l : List ℕ) → InField (coordinateOf l)
 unfolding coordinateOf
 coordinate-in l =
-    choice InField (cut (split limits.comma l)) (Wrong fault.Comma) _ tt
+    choice InField (cut (split limits.comma l)) (Wrong fault.Comma) _ refl
     (choice InField (eqb (getD l 0 0) limits.minus) _ _ (unsigned-in true (split limits.point (drop 1 l))) (unsigned-in false (split limits.point l)))
 
 judged-coordinate : (c : Coordinate) → InField c → InFields (judgeCoordinate c)
@@ -92,11 +92,11 @@ judged-coordinate (Wrong f) h = h
 
 judged-count : (s : Spelt) → InFields (judgeCount s)
 judged-count (Of n) = tt
-judged-count Not = tt
+judged-count Not = refl
 
 judged-vertex : (count : ℕ) (s : Spelt) → InFields (judgeVertex count s)
-judged-vertex count (Of n) = choice InFields (eqb n 0) (Failed fault.Vertex) _ tt (choice InFields (ltb count n) (Failed fault.Vertex) Passed tt tt)
-judged-vertex count Not = tt
+judged-vertex count (Of n) = choice InFields (eqb n 0) (Failed fault.Vertex) _ refl (choice InFields (ltb count n) (Failed fault.Vertex) Passed refl tt)
+judged-vertex count Not = refl
 
 field-in : (state : ReaderState) (role : Role) (l : List ℕ) → InFields (fieldVerdict state role l)
 unfolding fieldVerdict
@@ -117,7 +117,7 @@ fields-in state role (piece l p) =
 
 -- ---- a line
 
-given-in : (b : Bool) (f : Fault) (next : Line) → T (ofReading f) → InLine next → InLine (given b f next)
+given-in : (b : Bool) (f : Fault) (next : Line) → OfReading f → InLine next → InLine (given b f next)
 given-in b f next h g = choice InLine b (No f) next h g
 
 judged-in : (j : Judged) (next : Line) → InFields j → InLine next → InLine (judged j next)
@@ -127,20 +127,20 @@ judged-in (Failed f) next h g = h
 line-in : (rooms : Rooms) (state : ReaderState) (closed : Bool) (l : List ℕ) → InLine (lineVerdict rooms state closed l)
 unfolding lineVerdict
 line-in rooms state closed l =
-    given-in (state .ended) fault.Mark _ tt
-    (given-in (not closed) fault.Shape _ tt
-    (given-in (badMark state (roleOf (markOf l))) fault.Mark _ tt
-    (given-in (tooMany state (roleOf (markOf l))) fault.Many _ tt
-    (given-in (badShape (wants (markOf l)) l) fault.Shape _ tt
+    given-in (state .ended) fault.Mark _ refl
+    (given-in (not closed) fault.Shape _ refl
+    (given-in (badMark state (roleOf (markOf l))) fault.Mark _ refl
+    (given-in (tooMany state (roleOf (markOf l))) fault.Many _ refl
+    (given-in (badShape (wants (markOf l)) l) fault.Shape _ refl
     (judged-in (fieldsVerdict state (roleOf (markOf l)) (fieldsOf l)) _ (fields-in state (roleOf (markOf l)) (fieldsOf l))
-    (given-in (noRoom rooms state (roleOf (markOf l))) fault.Room _ tt
-    (given-in (badCounts state (roleOf (markOf l)) (fieldsOf l)) fault.End _ tt tt)))))))
+    (given-in (noRoom rooms state (roleOf (markOf l))) fault.Room _ refl
+    (given-in (badCounts state (roleOf (markOf l)) (fieldsOf l)) fault.End _ refl tt)))))))
 
 -- ---- the lines of a file
 
 end-in : (state : ReaderState) (n : ℕ) → 0 < n → InLines (atEnd state n)
 unfolding atEnd
-end-in state n h = choice InLines (state .ended) _ _ tt (record { fault = tt; line = h })
+end-in state n h = choice InLines (state .ended) _ _ tt (record { fault = refl; line = h })
 
 onward-in : (line : Line) (n : ℕ) (next : ReaderState → Verdict (List ℕ)) → 0 < n → InLine line → ((s : ReaderState) → InLines (next s))
     → InLines (onward line n next)
@@ -158,28 +158,26 @@ lines-in rooms state n (piece l p) h =
 -- ---- the spot
 
 -- a fault of reading at a line has that line as its spot
-line-spot : (r : Refusal) → AtLine r → spotOf r ≡ spot.Line (r .place)
+line-spot : (r : Refusal) → AtLine r → spotOf (refuserOf (r .fault)) r ≡ spot.Line (r .place)
 unfolding spotOf
-line-spot r h =
-    let l : numberOf (r .fault) ≤ 10 = leb-true (numberOf (r .fault)) 10 (T-true (ofReading (r .fault)) (h .fault)) in
-    rw (ne-eqb (numberOf (r .fault)) 14 (λ e. omega arith), le-ltb 10 (numberOf (r .fault)) l, ne-eqb (r .place) 0 (λ e. omega (arith, h .line)))
+line-spot r h = rw (h .fault, ne-eqb (r .place) 0 (λ e. omega (arith, h .line)))
 
 -- LONG has the file
-long-spot : (r : Refusal) → r ≡ refuse fault.Long 0 → spotOf r ≡ spot.File
+long-spot : (r : Refusal) → r ≡ refuse fault.Long 0 → spotOf (refuserOf (r .fault)) r ≡ spot.Whole
 unfolding spotOf
 long-spot r e = rw e
 
 -- the file itself where it is too long, else the line that the refusal names
 pub read-spot : (rooms : Rooms) (file : List ℕ) (r : Refusal) → fileVerdict rooms file ≡ refused r
-    → spotOf r ≡ cond (ltb limits.fileLimit (length file)) spot.File (spot.Line (r .place))
+    → spotOf (refuserOf (r .fault)) r ≡ cond (ltb limits.fileLimit (length file)) spot.Whole (spot.Line (r .place))
 unfolding fileVerdict
 read-spot rooms file r = go (ltb limits.fileLimit (length file)) (fileFrom rooms start 1 (linesOf file)) (lines-in rooms start 1 (linesOf file) (omega arith))
   where
-    at : (v : Verdict (List ℕ)) → InLines v → v ≡ refused r → spotOf r ≡ spot.Line (r .place)
+    at : (v : Verdict (List ℕ)) → InLines v → v ≡ refused r → spotOf (refuserOf (r .fault)) r ≡ spot.Line (r .place)
     at (accepted counts) h e = absurd (let q : _≡_ {A = ℕ} 0 1 = cc in omega arith)
     at (refused s) h e = let q : s ≡ r = cc in line-spot r (subst AtLine q h)
 
     go : (b : Bool) (v : Verdict (List ℕ)) → InLines v → cond b (refused (refuse fault.Long 0)) v ≡ refused r
-        → spotOf r ≡ cond b spot.File (spot.Line (r .place))
+        → spotOf (refuserOf (r .fault)) r ≡ cond b spot.Whole (spot.Line (r .place))
     go true v h e = let q : r ≡ refuse fault.Long 0 = cc in long-spot r q
     go false v h e = at v h e

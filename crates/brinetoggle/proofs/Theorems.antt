@@ -11,19 +11,19 @@ use mathlib.Core.Bool.{Bool, true, false, cond}
 use mathlib.Core.List.{List}
 use native.Mathlib.Omega.{arith}
 use borrow.Author.Tests.{lt-ltb, ltb-true, ltb-false}
-use lib.Dec.{eqb, ltb}
+use lib.Dec.{ltb}
 use lib.ListN.{length, take}
 use lib.Seq.{take-all, length-take-le}
 use Rattle.limits.specs.Limits.{fileLimit}
 use Rattle.faults.specs.declared.Fault.the-variants as fault
 use Rattle.faults.specs.declared.Refusal.{Refusal}
-use Rattle.faults.specs.Refusals.{accepted, refused, refuse, numberOf}
-use Rattle.text.specs.File.{fileVerdict}
-use Rattle.text.specs.declared.terms.Rooms.{Rooms}
+use Rattle.faults.specs.Refusals.{accepted, refused, refuse}
+use Rattle.format.specs.File.{fileVerdict}
+use Rattle.format.specs.declared.Rooms.{Rooms}
 use Rattle.converting.specs.Conversion.{rooms, conversion, programOutput}
 use Rattle.brinetoggle.specs.Reading.{inputRoom}
-use Rattle.brinetoggle.specs.Words.{spotOf}
-use Rattle.brinetoggle.specs.declared.words.Spot.the-variants.{File, Line, Element, Elements}
+use Rattle.faults.specs.Spots.{subjectOf, tableSpot, spotOf, refuserOf}
+use Rattle.faults.specs.declared.Spot.the-variants.{Whole, Line}
 use Rattle.brinetoggle.specs.Responding.{lengthOf, verdictIn, Responded}
 use Rattle.brinetoggle.specs.declared.responding.Response.{Response}
 use Rattle.brinetoggle.proofs.SpotLaws as SpotLaws
@@ -67,10 +67,10 @@ module _ (input : List ℕ) (r r′ : Response) (output output′ : List ℕ) wh
 
 -- where reading refused: the file itself where it is too long, else the line that the refusal names
 pub read-spot : (rooms : Rooms) (file : List ℕ) (r : Refusal) → fileVerdict rooms file ≡ refused r
-    → spotOf r ≡ cond (ltb fileLimit (length file)) File (Line (r .place))
+    → spotOf (refuserOf (r .fault)) r ≡ cond (ltb fileLimit (length file)) Whole (Line (r .place))
 read-spot = SpotLaws.read-spot
 
 -- where cutting refused what reading accepted: both elements of JOIN, else the element that the refusal names
 pub cut-spot : (input counts : List ℕ) (r : Refusal) → fileVerdict rooms input ≡ accepted counts → conversion input ≡ refused r
-    → spotOf r ≡ cond (eqb (numberOf (r .fault)) (numberOf fault.Join)) (Elements (r .place) (r .second)) (Element (r .place))
+    → spotOf (refuserOf (r .fault)) r ≡ tableSpot (subjectOf (r .fault)) r
 cut-spot = CutSpotLaws.cut-spot

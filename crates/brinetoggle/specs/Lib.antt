@@ -1,4 +1,3 @@
--- What the program says of its input, its output and a refusal.
+-- What the program says of its input and its output.
 pub mod Reading
 pub mod Responding
-pub mod Words

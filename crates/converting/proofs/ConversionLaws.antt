@@ -13,8 +13,8 @@ use Rattle.faults.specs.declared.Refusal.{Refusal}
 use Rattle.faults.specs.Refusals.{Verdict, accepted, refused, andThen}
 use Rattle.solids.specs.Solids.{Vertex, Tet}
 use Rattle.mesh.specs.Cutting.{cutOf}
-use Rattle.text.specs.File.{fileVerdict}
-use Rattle.text.specs.Records.{storedVertices, storedElements}
+use Rattle.format.specs.File.{fileVerdict}
+use Rattle.format.specs.Records.{storedVertices, storedElements}
 use Rattle.writing.specs.Written.{inRoom}
 use Rattle.converting.specs.Conversion.{rooms, cutRoom, cutText, conversion}
 use Rattle.converting.specs.declared.ConvertAnswer.{ConvertAnswer}

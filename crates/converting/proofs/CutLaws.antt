@@ -30,8 +30,8 @@ use Rattle.mesh.specs.declared.CutAnswer.the-variants.{Done, Refused}
 use Rattle.mesh.specs.declared.CutCounts.{CutCounts}
 use Rattle.judging.specs.Judge.{judged}
 use Rattle.mesh.specs.Cutting.{flat, cutOf, cutVerdict, CutDone}
-use Rattle.judging.proofs.JudgeLaws.{records-inside}
-use Rattle.judging.proofs.AcceptedLaws.{no-bad-record}
+use Rattle.tables.proofs.CleanRecordLaws.{records-inside}
+use Rattle.judging.proofs.AcceptedTableLaws.{no-bad-record}
 use Rattle.mesh.proofs.StoreLaws.{length-flat}
 use Rattle.judging.proofs.Theorems.{accepted-elements, accepted-proper, accepted-tetrahedra}
 use Rattle.records.proofs.TetrahedronRecord.{isGood, record-faultless}

@@ -13,8 +13,8 @@ use Rattle.laws.proofs.ListLaws.{gather-append}
 use Rattle.records.specs.Record.{asRecord}
 use Rattle.solids.specs.Solids.{Vertex, Tet, tet, ofTet}
 use Rattle.mesh.specs.Cutting.{flat}
-use Rattle.text.specs.File.{start}
-use Rattle.text.specs.declared.terms.ReaderState.{ReaderState}
+use Rattle.format.specs.File.{start}
+use Rattle.format.specs.declared.ReaderState.{ReaderState}
 use Rattle.writing.specs.Written.{closed, vertexLine, elementLine, endLine, vertexLines, elementLines, afterLines, linesFrom, fileLines, writtenFile}
 use Rattle.converting.specs.Conversion.{cutText}
 use Rattle.converting.specs.ConversionLoops.{vertexText, tetrahedronRecord, tetrahedronText, textTo, meshText}

@@ -18,16 +18,18 @@ use Rattle.faults.specs.declared.Refusal.{Refusal}
 use Rattle.faults.specs.Refusals.{Verdict, accepted, refused, refuse, refusePair, refuseIf, andThen}
 use Rattle.records.specs.Record.{recordFinding, recordAt, firstElements}
 use Rattle.solids.specs.Cut.{cutMesh}
-use Rattle.judging.specs.Judge.{faultIn, badRecord, badElement, misfit, judged}
+use Rattle.tables.specs.JudgedRecords.{faultIn, badRecord}
+use Rattle.judging.specs.Judge.{badElement, misfit, judged}
+use Rattle.judging.proofs.TableVerdictLaws.{judged-by-tests}
 use Rattle.mesh.specs.Cutting.{cutOf}
-use Rattle.text.specs.Line.{lineVerdict}
-use Rattle.text.specs.File.{start, linesOf, atEnd, onward, fileFrom, fileVerdict}
-use Rattle.text.specs.Records.{storedElements}
-use Rattle.text.specs.declared.terms.ReaderState.{ReaderState}
-use Rattle.text.specs.declared.terms.Rooms.{Rooms}
-use Rattle.text.specs.declared.terms.Line.{Line}
-use Rattle.text.specs.declared.terms.Line.the-variants.{Next, No}
-use Rattle.text.proofs.AcceptedLaws.{file-fits}
+use Rattle.format.specs.Line.{lineVerdict}
+use Rattle.format.specs.File.{start, linesOf, atEnd, onward, fileFrom, fileVerdict}
+use Rattle.format.specs.Records.{storedElements}
+use Rattle.format.specs.declared.ReaderState.{ReaderState}
+use Rattle.format.specs.declared.Rooms.{Rooms}
+use Rattle.format.specs.declared.Line.{Line}
+use Rattle.format.specs.declared.Line.the-variants.{Next, No}
+use Rattle.format.proofs.AcceptedFileLaws.{file-fits}
 use Rattle.converting.specs.Conversion.{rooms, cutRoom, conversion}
 
 -- both numbers are at most m
@@ -128,16 +130,16 @@ module _ (m v n : ℕ) (t : List ℕ) (few : n ≤ m) where
   lower (suc j) = omega arith
 
   judged-small : Small m (judged v n t)
-  unfolding judged
   judged-small =
       let k = badRecord v t n in
       let j = badElement t n in
-      small-if m (ltb vertexLimit v) (refuse fault.Many 0) _ nowhere
+      rw (judged-by-tests v n t)
+      (small-if m (ltb vertexLimit v) (refuse fault.Many 0) _ nowhere
       (small-if m (ltb elementLimit n) (refuse fault.Many 0) _ nowhere
       (small-if m (ltb (length t) (elementWidth * n)) (refuse fault.Room 0) _ no-room
       (small-if m (ltb 0 k) (refuse (faultIn (recordFinding v (recordAt t (pred k)))) k) _ (record { place = omega (arith, at-record); second = zero-le })
       (small-if m (ltb 0 j) (refusePair j (misfit t (pred j))) (accepted (firstElements t n))
-      (record { place = omega (arith, at-element); second = omega (arith, at-misfit (pred j), lower j, at-element) }) tt))))
+      (record { place = omega (arith, at-element); second = omega (arith, at-misfit (pred j), lower j, at-element) }) tt)))))
 
   cut-small : (room : ℕ) → Small m (cutOf v n t room)
   unfolding cutOf

@@ -10,8 +10,8 @@ use Rattle.faults.specs.Refusals.{Verdict, accepted, refused, andThen}
 use Rattle.records.specs.Record.{kindOf}
 use Rattle.solids.specs.Solids.{Vertex, Tet}
 use Rattle.mesh.specs.Cutting.{flat, cutOf}
-use Rattle.text.specs.File.{fileVerdict}
-use Rattle.text.specs.Records.{storedVertices, storedElements}
+use Rattle.format.specs.File.{fileVerdict}
+use Rattle.format.specs.Records.{storedVertices, storedElements}
 use Rattle.writing.specs.Written.{closed, endLine}
 use Rattle.writing.proofs.Theorems.{element-line-by-kind, end-line-short}
 use Rattle.converting.specs.Conversion.{rooms, cutRoom, cutText, conversion}

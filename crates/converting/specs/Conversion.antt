@@ -9,9 +9,9 @@ use Rattle.faults.specs.Refusals.{Verdict, accepted, refused, andThen}
 use Rattle.solids.specs.Solids.{Vertex, Tet}
 use Rattle.records.specs.Record.{asRecord}
 use Rattle.mesh.specs.Cutting.{cutOf}
-use Rattle.text.specs.declared.terms.Rooms.{Rooms}
-use Rattle.text.specs.File.{fileVerdict}
-use Rattle.text.specs.Records.{storedVertices, storedElements}
+use Rattle.format.specs.declared.Rooms.{Rooms}
+use Rattle.format.specs.File.{fileVerdict}
+use Rattle.format.specs.Records.{storedVertices, storedElements}
 use Rattle.writing.specs.Written.{writtenFile, refusalLine}
 
 -- tables with room for every file, and for every cut

@@ -12,7 +12,8 @@ use Rattle.laws.specs.Words.{every}
 use Rattle.faults.specs.declared.Finding.the-variants.{Clean}
 use Rattle.faults.specs.Refusals.{Verdict, andThen}
 use Rattle.volume.specs.Volume.{inRange}
-use Rattle.records.specs.Record.{recordFinding}
+use Rattle.solids.specs.Solids.{tet}
+use Rattle.records.specs.Record.{recordFinding, asRecord}
 use Rattle.mesh.specs.Cutting.{cutOf}
 use Rattle.writing.specs.Written.{closed, vertexLine, elementLine, endLine, inRoom}
 use Rattle.writing.specs.declared.WriteAnswer.{WriteAnswer}
@@ -39,7 +40,7 @@ vertexText t k =
 unfoldable pub tetrahedronRecord : List ℕ → ℕ → List ℕ
 tetrahedronRecord t k =
     let at = tetrahedronWidth * k in
-    4 ∷ getD t at 0 ∷ getD t (at + 1) 0 ∷ getD t (at + 2) 0 ∷ getD t (at + 3) 0 ∷ 0 ∷ 0 ∷ 0 ∷ 0 ∷ []
+    asRecord (tet (getD t at 0) (getD t (at + 1) 0) (getD t (at + 2) 0) (getD t (at + 3) 0))
 
 -- its line
 unfoldable pub tetrahedronText : List ℕ → ℕ → List ℕ

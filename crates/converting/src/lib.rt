@@ -7,10 +7,13 @@ use crate::output::store;
 use faults::Fault;
 use faults::Refusal;
 use limits::ELEMENT_NUMBERS;
+use limits::ELEMENT_WIDTH;
 use limits::TETRAHEDRON_LIMIT;
 use limits::TETRAHEDRON_NUMBERS;
+use limits::TETRAHEDRON_WIDTH;
 use limits::VERTEX_LIMIT;
 use limits::VERTEX_NUMBERS;
+use limits::VERTEX_WIDTH;
 use mesh::CutAnswer;
 use mesh::cut_mesh;
 use text::ReadAnswer;
@@ -70,7 +73,7 @@ fn cut_and_write(
         CutAnswer::Refused(refusal) => ConvertAnswer::Refused(refusal),
         CutAnswer::Done(counts) => {
             let count = counts.tetrahedra;
-            let end = TETRAHEDRON * count;
+            let end = TETRAHEDRON_WIDTH * count;
             write_cut(vertices, vertex_count, &tetrahedra[..end], count, output)
         }
     }
@@ -87,8 +90,8 @@ pub fn convert(input: &[u8], output: &mut [u8]) -> ConvertAnswer
         ReadAnswer::Done(counts) => {
             let vertex_count = counts.vertices;
             let element_count = counts.elements;
-            let vertex_end = VERTEX * vertex_count;
-            let element_end = ELEMENT * element_count;
+            let vertex_end = VERTEX_WIDTH * vertex_count;
+            let element_end = ELEMENT_WIDTH * element_count;
             cut_and_write(
                 &vertices[..vertex_end],
                 vertex_count,

@@ -1,6 +1,8 @@
 // The text of a cut mesh, put from the front of lent memory: vertices, tetrahedra, EN.
 use limits::TETRAHEDRON_WIDTH;
 use limits::VERTEX_WIDTH;
+use records::tetrahedron_record;
+use solids::Vertex;
 use writing::WriteAnswer;
 use writing::write_element;
 use writing::write_end;
@@ -64,7 +66,8 @@ fn put_tetrahedron(tetrahedra: &[u16], k: usize, out: &mut [u8]) -> usize
     let b = tetrahedra[at + 1];
     let c = tetrahedra[at + 2];
     let d = tetrahedra[at + 3];
-    length_in(write_element([4, a, b, c, d, 0, 0, 0, 0], out))
+    let record = tetrahedron_record(Vertex(a), Vertex(b), Vertex(c), Vertex(d));
+    length_in(write_element(record, out))
 }
 
 // The lines of the tetrahedra; their length.

@@ -46,13 +46,13 @@ module _ (s : Solid) (vs : List ℕ) (i : ℕ) where
   unfolding facePlace faceCorners
   face-at = face-in vs (faces s) (faces-ok s) i
 
-  pub three-at : facePlace s i 3 ≡ 0
-      → three (at vs (facePlace s i 0)) (at vs (facePlace s i 1)) (at vs (facePlace s i 2)) ≡ getD (facesOf (element s vs)) i (three 0 0 0)
-  three-at e = rw (eq-eqb (facePlace s i 3) 0 e) at face-at
+  -- a face read place by place
+  module _ {p q r l : ℕ} (hp : p ≡ at vs (facePlace s i 0)) (hq : q ≡ at vs (facePlace s i 1)) (hr : r ≡ at vs (facePlace s i 2)) (hl : l ≡ facePlace s i 3) where
+    pub read-three : l ≡ 0 → three p q r ≡ getD (facesOf (element s vs)) i (three 0 0 0)
+    read-three z = rw (hp, hq, hr) (rw (eq-eqb (facePlace s i 3) 0 (sym hl ∙ z)) at face-at)
 
-  pub four-at : (facePlace s i 3 ≡ 0 → ⊥)
-      → four (at vs (facePlace s i 0)) (at vs (facePlace s i 1)) (at vs (facePlace s i 2)) (at vs (facePlace s i 3)) ≡ getD (facesOf (element s vs)) i (three 0 0 0)
-  four-at e = rw (ne-eqb (facePlace s i 3) 0 e) at face-at
+    pub read-four : (l ≡ 0 → ⊥) → {x : ℕ} → x ≡ at vs l → four p q r x ≡ getD (facesOf (element s vs)) i (three 0 0 0)
+    read-four z hx = rw (hp, hq, hr, hx ∙ ap (at vs) hl) (rw (ne-eqb (facePlace s i 3) 0 (λ e. z (hl ∙ e))) at face-at)
 
   face-inside : i < faceCount s → i < length (facesOf (element s vs))
   face-inside h = rw (length-map (faces s) (onFace (at vs))) h

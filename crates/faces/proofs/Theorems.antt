@@ -1,4 +1,4 @@
--- What is promised of corners and faces, in the words of specs/ alone: two answers that a contract allows are equal.
+-- What is promised of faces, in the words of specs/ alone: two answers that a contract allows are equal.
 -- Assumes nothing.
 use mathlib.Core.Path.{_≡_, sym, _∙_}
 use mathlib.Core.Bool.{Bool}
@@ -12,14 +12,9 @@ use Rattle.solids.specs.Solids.{three, at, element, holds, facesOf}
 use Rattle.solids.specs.Rotations.{sameFace}
 use Rattle.solids.specs.Fit.{backFace}
 use Rattle.solids.specs.Cut.{lowestFirst, onDiagonal}
-use Rattle.records.specs.Record.{usedOf}
 use Rattle.faces.specs.declared.Face.{Face}
 use Rattle.faces.specs.Faces.{faceOf}
 use Rattle.faces.proofs.CodeFaceLaws.{same-vertex, face-tells}
-
--- `corners_of`
-pub corners-of-unique : (r a b : List ℕ) → a ≡ usedOf r → b ≡ usedOf r → a ≡ b
-corners-of-unique r a b e f = e ∙ sym f
 
 -- `vertex_at`
 pub vertex-at-unique : (vs : List ℕ) (p : ℕ) (a b : Vertex) → a .0 ≡ at vs p → b .0 ≡ at vs p → a ≡ b

@@ -1,14 +1,13 @@
-// The corners of a record, and the faces of its element in vertex numbers: one face as a cycle, its lowest corner and its diagonal.
+// The faces of an element in vertex numbers: one face as a cycle, its lowest corner and its diagonal.
 ghost use mathlib.Core.Path.{_≡_};
 ghost use mathlib.Core.List.{[], _∷_};
 ghost use Prim.Native.Nat.{min};
-ghost use lib.ListN.{getD, take, drop};
+ghost use lib.ListN.{getD};
 ghost use Rattle.laws.specs.Words.{among, lowest};
 ghost use Rattle.solids.specs.Solids.{at, element, three, four, holds, facesOf};
 ghost use Rattle.solids.specs.Rotations.{eqFace, sameFace};
 ghost use Rattle.solids.specs.Fit.{backFace};
 ghost use Rattle.solids.specs.Cut.{lowestFirst, onDiagonal};
-ghost use Rattle.records.specs.Record.{usedOf};
 ghost use Rattle.faces.specs.Faces.{faceOf};
 use solids::Place;
 use solids::Solid;
@@ -18,34 +17,6 @@ use solids::Vertex;
 pub enum Face {
     Three(Vertex, Vertex, Vertex),
     Four(Vertex, Vertex, Vertex, Vertex),
-}
-
-// The first n numbers, or all where they are fewer.
-fn front(numbers: &[u16], n: usize) -> &[u16]
-    ensures { λ r. ⌜ now r ≡ take n (now (numbers .entry)) ⌝ }
-{
-    if numbers.len() <= n {
-        return numbers;
-    }
-    &numbers[..n]
-}
-
-// The numbers behind the first n, or none where they are fewer.
-fn behind(numbers: &[u16], n: usize) -> &[u16]
-    ensures { λ r. ⌜ now r ≡ drop n (now (numbers .entry)) ⌝ }
-{
-    if numbers.len() <= n {
-        return &numbers[..0];
-    }
-    &numbers[n..]
-}
-
-// The vertex numbers of a record's corners.
-pub fn corners_of(element: &[u16]) -> &[u16]
-    ensures { λ r. ⌜ now r ≡ usedOf (now (element .entry)) ⌝ }
-{
-    let kind = records::kind_of(element) as usize;
-    front(front(behind(element, 1), 8), kind)
 }
 
 // The vertex at a place of an element; 0 where there is none.
@@ -110,64 +81,80 @@ pub fn back(face: Face) -> Face
     }
 }
 
-// The same corners in the same order.
-fn equal(face: Face, other: Face) -> bool
-    ensures { λ r. ⌜ r ≡ eqFace (faceOf face) (faceOf other) ⌝ }
+// Three vertices are the same three, in the same order.
+fn equal_three(a: Vertex, b: Vertex, c: Vertex, p: Vertex, q: Vertex, r: Vertex) -> bool
+    ensures { λ e. ⌜ e ≡ eqFace (three (a .0) (b .0) (c .0)) (three (p .0) (q .0) (r .0)) ⌝ }
+{
+    if a.0 != p.0 {
+        return false;
+    }
+    if b.0 != q.0 {
+        return false;
+    }
+    c.0 == r.0
+}
+
+// The corners of a face are these three, in this order.
+fn is_three(a: Vertex, b: Vertex, c: Vertex, face: Face) -> bool
+    ensures { λ e. ⌜ e ≡ eqFace (three (a .0) (b .0) (c .0)) (faceOf face) ⌝ }
 {
     match face {
-        Face::Three(a, b, c) => match other {
-            Face::Three(p, q, r) => {
-                if a.0 != p.0 {
-                    return false;
-                }
-                if b.0 != q.0 {
-                    return false;
-                }
-                c.0 == r.0
-            }
-            Face::Four(_, _, _, _) => false,
-        },
-        Face::Four(a, b, c, d) => match other {
-            Face::Three(_, _, _) => false,
-            Face::Four(p, q, r, s) => {
-                if a.0 != p.0 {
-                    return false;
-                }
-                if b.0 != q.0 {
-                    return false;
-                }
-                if c.0 != r.0 {
-                    return false;
-                }
-                d.0 == s.0
-            }
-        },
+        Face::Three(p, q, r) => equal_three(a, b, c, p, q, r),
+        Face::Four(_, _, _, _) => false,
     }
+}
+
+// The corners of a face are these four, in this order.
+fn is_four(a: Vertex, b: Vertex, c: Vertex, d: Vertex, face: Face) -> bool
+    ensures { λ e. ⌜ e ≡ eqFace (four (a .0) (b .0) (c .0) (d .0)) (faceOf face) ⌝ }
+{
+    match face {
+        Face::Three(_, _, _) => false,
+        Face::Four(p, q, r, s) => {
+            if a.0 != p.0 {
+                return false;
+            }
+            equal_three(b, c, d, q, r, s)
+        }
+    }
+}
+
+// The cycle of three corners is that of a face, read from any of them.
+fn same_three(a: Vertex, b: Vertex, c: Vertex, face: Face) -> bool
+    ensures { λ e. ⌜ e ≡ sameFace (three (a .0) (b .0) (c .0)) (faceOf face) ⌝ }
+{
+    if is_three(a, b, c, face) {
+        return true;
+    }
+    if is_three(b, c, a, face) {
+        return true;
+    }
+    is_three(c, a, b, face)
+}
+
+// The cycle of four corners is that of a face, read from any of them.
+fn same_four(a: Vertex, b: Vertex, c: Vertex, d: Vertex, face: Face) -> bool
+    ensures { λ e. ⌜ e ≡ sameFace (four (a .0) (b .0) (c .0) (d .0)) (faceOf face) ⌝ }
+{
+    if is_four(a, b, c, d, face) {
+        return true;
+    }
+    if is_four(b, c, d, a, face) {
+        return true;
+    }
+    if is_four(c, d, a, b, face) {
+        return true;
+    }
+    is_four(d, a, b, c, face)
 }
 
 // The same cycle, read from any of its corners.
 pub fn same(face: Face, other: Face) -> bool
     ensures { λ r. ⌜ r ≡ sameFace (faceOf face) (faceOf other) ⌝ }
 {
-    if equal(face, other) {
-        return true;
-    }
     match face {
-        Face::Three(a, b, c) => {
-            if equal(Face::Three(b, c, a), other) {
-                return true;
-            }
-            equal(Face::Three(c, a, b), other)
-        }
-        Face::Four(a, b, c, d) => {
-            if equal(Face::Four(b, c, d, a), other) {
-                return true;
-            }
-            if equal(Face::Four(c, d, a, b), other) {
-                return true;
-            }
-            equal(Face::Four(d, a, b, c), other)
-        }
+        Face::Three(a, b, c) => same_three(a, b, c, other),
+        Face::Four(a, b, c, d) => same_four(a, b, c, d, other),
     }
 }
 

@@ -1,2 +1,3 @@
 -- What is proved of refusals.
 pub mod Theorems
+pub mod RefusalLaws

@@ -7,6 +7,9 @@ use lib.ListN.{getD}
 use Rattle.faults.specs.declared.Fault.{Fault}
 use Rattle.faults.specs.declared.Fault.the-variants.{Long, Mark, Shape, Comma, Number, Range, Many, Vertex, Room, End, Kind, Spare, Repeat, Join}
 use Rattle.faults.specs.declared.Refusal.{Refusal}
+use Rattle.faults.specs.declared.Refuser.{Refuser}
+use Rattle.faults.specs.declared.Spot.{Spot}
+use Rattle.faults.specs.Spots.{spotOf, refuserOf}
 use Rattle.faults.specs.Refusals.{numberOf, Verdict, accepted, refused, Answer, answerOf}
 
 -- the faults in the page's order
@@ -75,3 +78,17 @@ module _ {A : Type 0} where
   -- two verdicts with one answer are one verdict
   pub answer-tells-verdict : (zeros : A) (v w : Verdict A) → answerOf zeros v ≡ answerOf zeros w → v ≡ w
   answer-tells-verdict zeros v w e = sym (verdict-told zeros v) ∙ ap verdictIn e ∙ verdict-told zeros w
+
+-- ---- two answers that a contract allows are equal
+
+-- `number_of`
+pub number-unique : (f : Fault) (a b : ℕ) → a ≡ numberOf f → b ≡ numberOf f → a ≡ b
+number-unique f a b p q = p ∙ sym q
+
+-- `spot_of`
+pub spot-unique : (who : Refuser) (r : Refusal) (a b : Spot) → a ≡ spotOf who r → b ≡ spotOf who r → a ≡ b
+spot-unique who r a b p q = p ∙ sym q
+
+-- `refuser_of`
+pub refuser-unique : (f : Fault) (a b : Refuser) → a ≡ refuserOf f → b ≡ refuserOf f → a ≡ b
+refuser-unique f a b p q = p ∙ sym q

@@ -42,3 +42,20 @@ spotIn Judging r = tableSpot (subjectOf (r .fault)) r
 -- place 0 is the file or a table as a whole
 unfoldable pub spotOf : Refuser → Refusal → Spot
 spotOf who r = cond (eqb (r .place) 0) spot.Whole (spotIn who r)
+
+-- where a file is read and what was read is then judged: reading leaves KIND, SPARE, REPEAT and JOIN to judging, and nothing else
+abbrev pub refuserOf : Fault → Refuser
+refuserOf Long = Reading
+refuserOf Mark = Reading
+refuserOf Shape = Reading
+refuserOf Comma = Reading
+refuserOf Number = Reading
+refuserOf Range = Reading
+refuserOf Many = Reading
+refuserOf Vertex = Reading
+refuserOf Room = Reading
+refuserOf End = Reading
+refuserOf Kind = Judging
+refuserOf Spare = Judging
+refuserOf Repeat = Judging
+refuserOf Join = Judging

@@ -1,7 +1,7 @@
 // The page's refusals: their names, their numbers, and what a refusal carries. Only this room takes a fault apart.
 ghost use mathlib.Core.Path.{_≡_};
 ghost use Rattle.faults.specs.Refusals.{numberOf};
-ghost use Rattle.faults.specs.Spots.{subjectOf, tableSpot, spotOf};
+ghost use Rattle.faults.specs.Spots.{subjectOf, tableSpot, spotOf, refuserOf};
 
 // A fault by the page's name, in the page's order.
 pub enum Fault {
@@ -128,5 +128,27 @@ pub fn spot_of(refusal: Refusal, refuser: Refuser) -> Spot
     match refuser {
         Refuser::Reading => Spot::Line(refusal.place),
         Refuser::Judging => table_spot(refusal),
+    }
+}
+
+// Who gives a fault where a file is read and what was read is then judged.
+pub fn refuser_of(fault: Fault) -> Refuser
+    ensures { λ r. ⌜ r ≡ refuserOf fault ⌝ }
+{
+    match fault {
+        Fault::Long => Refuser::Reading,
+        Fault::Mark => Refuser::Reading,
+        Fault::Shape => Refuser::Reading,
+        Fault::Comma => Refuser::Reading,
+        Fault::Number => Refuser::Reading,
+        Fault::Range => Refuser::Reading,
+        Fault::Many => Refuser::Reading,
+        Fault::Vertex => Refuser::Reading,
+        Fault::Room => Refuser::Reading,
+        Fault::End => Refuser::Reading,
+        Fault::Kind => Refuser::Judging,
+        Fault::Spare => Refuser::Judging,
+        Fault::Repeat => Refuser::Judging,
+        Fault::Join => Refuser::Judging,
     }
 }

@@ -18,11 +18,13 @@ use Rattle.faults.specs.Refusals.{accepted}
 use Rattle.solids.specs.Solids.{Element}
 use Rattle.solids.specs.Fit.{proper, fits, fitting}
 use Rattle.records.specs.Record.{recordFinding, recordCount, recordAt, elementAt, firstElements}
-use Rattle.judging.specs.Judge.{isFault, badRecord, pairFits, misfit, badElement, judged}
+use Rattle.tables.proofs.CleanRecordLaws.{none-at-fault}
+use Rattle.tables.proofs.JudgedRecordLaws.{all-clean}
+use Rattle.judging.specs.Judge.{pairFits, misfit, badElement, judged}
 use Rattle.judging.specs.Acceptance.{Acceptable}
 use Rattle.records.proofs.Theorems.{clean-whole, first-each, first-proper}
-use Rattle.judging.proofs.VerdictLaws.{all-clean, all-fit}
-use Rattle.judging.proofs.AcceptedLaws.{accepted-elements, accepted-vertices, accepted-count, accepted-long, accepted-clean, accepted-fitting}
+use Rattle.judging.proofs.TableVerdictLaws.{records-passed, all-fit}
+use Rattle.judging.proofs.AcceptedTableLaws.{accepted-elements, accepted-vertices, accepted-count, accepted-long, accepted-clean, accepted-fitting}
 
 -- the elements before one more fit, and all of them fit it
 fitting-before : (es : List Element) (x : Element) → T (fitting (es ++ (x ∷ []))) → T (fitting es) × T (every (λ e. fits e x) es)
@@ -59,16 +61,12 @@ module _ (t : List ℕ) where
       le-ltb 0 (misfit t j)
       (let z : misfit t j ≡ 0 = least-none (λ i. not (pairFits t i j)) j (λ i k. rw (T-true (pairFits t i j) (fitting-pairs n h i j k l))) in omega arith)
 
-none-at-fault : (limit : ℕ) (t : List ℕ) (n : ℕ) → ((k : ℕ) → k < n → recordFinding limit (recordAt t k) ≡ Clean) → badRecord limit t n ≡ 0
-unfolding badRecord
-none-at-fault limit t n h = least-none (λ k. isFault (recordFinding limit (recordAt t k))) n (λ k l. ap isFault (h k l))
-
 -- what the page asks is enough
 pub acceptable-accepted : (v n : ℕ) (t : List ℕ) → Acceptable v n t → judged v n t ≡ accepted (firstElements t n)
 unfolding recordCount
 acceptable-accepted v n t a =
-    all-clean v n t (a .vertices) (a .elements) (let l = a .long in omega arith) (none-at-fault v t n (a .clean)) .verdict
-    ∙ all-fit t n (none-misfits t n (a .fit))
+    records-passed v n t (firstElements t n) (all-clean v n t (a .vertices) (a .elements) (let l = a .long in omega arith) (none-at-fault v t n (a .clean))) .verdict
+    ∙ all-fit t n (firstElements t n) (none-misfits t n (a .fit))
 
 -- and is so of every table that is accepted
 pub accepted-acceptable : (v n : ℕ) (t : List ℕ) (es : List Element) → judged v n t ≡ accepted es → Acceptable v n t

@@ -14,7 +14,7 @@ use borrow.Author.Tests.{eqb-true, eqb-false, eq-eqb, ne-eqb, ltb-true, ltb-fals
 use Rattle.limits.specs.Limits.{elementLimit, vertexLimit, elementWidth}
 use Rattle.laws.specs.Words.{keep, among, distinct}
 use Rattle.laws.specs.Searches.{least}
-use Rattle.laws.proofs.SearchLaws.{least-all, least-none, least-most}
+use Rattle.laws.proofs.SearchLaws.{least-all, least-none}
 use Rattle.laws.proofs.TestLaws.{T-true, true-T, and-left, and-right, distinct-cons}
 use Rattle.laws.proofs.EveryLaws.{every-index, every-append, every-implies}
 use Rattle.solids.specs.Fit.{common, fits}
@@ -23,10 +23,11 @@ use Rattle.solids.proofs.FaceFacts.{at-among}
 use Rattle.records.specs.Record.{kindOf, numbersOf, usedOf, spareOf, recordAt, elementOf, elementAt}
 use Rattle.records.specs.WholeRecords.{isNumber, Faultless, WholeTable}
 use Rattle.records.proofs.RecordLaws.{used-length, kind-small, record-parts, clean-faultless}
-use Rattle.judging.specs.Judge.{badRecord, badElement, pairFits, misfit}
-use Rattle.judging.proofs.JudgeLaws.{record-clean}
-use Rattle.judging.specs.JudgeLoops.{Recorded}
-use Rattle.judging.specs.FitLoops.{Pair, Numbered, holds, latest, Filed, Seen, Grown, Meeting, Met}
+use Rattle.tables.specs.JudgedRecords.{badRecord}
+use Rattle.judging.specs.Judge.{badElement, pairFits, misfit}
+use Rattle.tables.proofs.CleanRecordLaws.{record-clean}
+use Rattle.judging.specs.Judgement.{Recorded}
+use Rattle.judging.specs.ChainLoops.{Numbered, holds, latest, Filed, Seen, Grown, Meeting, Met}
 
 -- ---- the greatest number below a bound
 
@@ -96,12 +97,8 @@ kind-holds t v j = let e : (elementWidth * j) % elementWidth ≡ 0 = omega arith
 
 -- ---- records without a fault
 
-pub whole-front : (t : List ℕ) (n m : ℕ) → WholeTable t n → m ≤ n → WholeTable t m
+whole-front : (t : List ℕ) (n m : ℕ) → WholeTable t n → m ≤ n → WholeTable t m
 whole-front t n m w h = record { few = omega (arith, w .few); long = omega (arith, w .long); whole = λ k l. w .whole k (omega arith) }
-
--- the two records of a pair
-pub pair-whole : (t : List ℕ) (i j : ℕ) {a b : List ℕ} → WholeTable t (j + 1) → i < j → a ≡ recordAt t i → b ≡ recordAt t j → Pair a b
-pair-whole t i j w h p q = record { first = rw p (w .whole i (omega arith)); second = rw q (w .whole j (omega arith)) }
 
 -- the verdict of two records is that of the pair
 pub pair-verdict : (t : List ℕ) (i j : ℕ) {a b : List ℕ} {r : Bool} → a ≡ recordAt t i → b ≡ recordAt t j → r ≡ fits (elementOf a) (elementOf b) → r ≡ pairFits t i j
@@ -343,10 +340,6 @@ misfit-some t i j h e = go (misfit t j) refl
     go : (m : ℕ) → misfit t j ≡ m → 0 < m
     go zero z = absurd (subst T (sym (not-false (pairFits t i j) (least-all (λ k. not (pairFits t k j)) j z i h)) ∙ e) tt)
     go (suc m) z = omega arith
-
-pub bad-high : (t : List ℕ) (n : ℕ) → badElement t n ≤ n
-unfolding badElement
-bad-high t n = least-most (λ j. ltb 0 (misfit t j)) n
 
 -- ---- elements with no vertex in common
 

@@ -1,11 +1,8 @@
 -- What is proved of judging a table.
-pub mod FitFaceLaws
-pub mod FittingLaws
+pub mod MisfitLaws
 pub mod ChainLaws
-pub mod EdgeLaws
-pub mod JudgeLaws
-pub mod VerdictLaws
-pub mod AcceptedLaws
+pub mod TableVerdictLaws
+pub mod AcceptedTableLaws
 pub mod AcceptanceLaws
-pub mod AnswerLaws
+pub mod JudgeAnswerLaws
 pub mod Theorems

@@ -20,11 +20,11 @@ use Rattle.records.specs.Record.{firstElements}
 use Rattle.judging.specs.declared.JudgeAnswer.{JudgeAnswer}
 use Rattle.judging.specs.declared.JudgeAnswer.the-variants as judge
 use Rattle.judging.specs.Judge.{judged, judgeVerdict, JudgeDone}
-use Rattle.judging.specs.JudgeLoops.{Recorded, Judging}
+use Rattle.judging.specs.Judgement.{Recorded, Judging}
 use Rattle.judging.specs.Acceptance.{Acceptable}
-use Rattle.judging.proofs.AcceptedLaws as AcceptedLaws
+use Rattle.judging.proofs.AcceptedTableLaws as AcceptedTableLaws
 use Rattle.judging.proofs.AcceptanceLaws as AcceptanceLaws
-use Rattle.judging.proofs.AnswerLaws as AnswerLaws
+use Rattle.judging.proofs.JudgeAnswerLaws as JudgeAnswerLaws
 
 -- ---- uniqueness: two answers that the contract allows are equal
 
@@ -41,26 +41,26 @@ judge-unique v n t r s p q = tells-judge r s (answer-tells-verdict [] (judgeVerd
 
 -- it is accepted, its records whole and without a fault; or the refusal is the page's
 pub judge-told : (v n : ℕ) (t : List ℕ) (r : JudgeAnswer) → JudgeDone v n t r → Judging v n t r
-judge-told = AnswerLaws.judge-told
+judge-told = JudgeAnswerLaws.judge-told
 
 -- a table that is refused for a pair has whole records without a fault: JOIN is looked for last
 pub join-recorded : (v n : ℕ) (t : List ℕ) (x : Refusal) → judged v n t ≡ refused x → x .fault ≡ Join → Recorded v n t
-join-recorded = AcceptedLaws.join-recorded
+join-recorded = AcceptedTableLaws.join-recorded
 
 -- ---- what an accepted table is
 
 -- its elements are the table's, at most 1,024, proper, and fit
 pub accepted-elements : (v n : ℕ) (t : List ℕ) (es : List Element) → judged v n t ≡ accepted es → es ≡ firstElements t n
-accepted-elements = AcceptedLaws.accepted-elements
+accepted-elements = AcceptedTableLaws.accepted-elements
 
 pub accepted-few : (v n : ℕ) (t : List ℕ) (es : List Element) → judged v n t ≡ accepted es → length es ≤ 1024
-accepted-few = AcceptedLaws.accepted-few
+accepted-few = AcceptedTableLaws.accepted-few
 
 pub accepted-proper : (v n : ℕ) (t : List ℕ) (es : List Element) → judged v n t ≡ accepted es → T (every proper es)
-accepted-proper = AcceptedLaws.accepted-proper
+accepted-proper = AcceptedTableLaws.accepted-proper
 
 pub accepted-fitting : (v n : ℕ) (t : List ℕ) (es : List Element) → judged v n t ≡ accepted es → T (fitting es)
-accepted-fitting = AcceptedLaws.accepted-fitting
+accepted-fitting = AcceptedTableLaws.accepted-fitting
 
 -- a table is accepted exactly if it is what the page asks
 pub accepted-acceptable : (v n : ℕ) (t : List ℕ) (es : List Element) → judged v n t ≡ accepted es → Acceptable v n t

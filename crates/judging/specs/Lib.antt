@@ -1,5 +1,6 @@
 -- The page's order of judging a table, and what it asks of a table.
 pub mod Judge
-pub mod JudgeLoops
+pub mod Judgement
 pub mod Acceptance
-pub mod FitLoops
+pub mod PairLoops
+pub mod ChainLoops

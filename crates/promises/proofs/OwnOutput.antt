@@ -9,8 +9,8 @@ use Rattle.limits.specs.Limits.{fileLimit, elementLimit}
 use Rattle.faults.specs.Refusals.{Verdict, accepted, refused, andThen}
 use Rattle.solids.specs.Solids.{Vertex, Tet}
 use Rattle.mesh.specs.Cutting.{cutOf}
-use Rattle.text.specs.File.{fileVerdict}
-use Rattle.text.specs.Records.{storedVertices, storedElements}
+use Rattle.format.specs.File.{fileVerdict}
+use Rattle.format.specs.Records.{storedVertices, storedElements}
 use Rattle.converting.specs.Conversion.{rooms, cutRoom, cutText, conversion, written, programOutput}
 use Rattle.promises.specs.OwnOutput.{tetrahedraOf}
 use Rattle.promises.proofs.OwnOutputLaws.{converted-again}

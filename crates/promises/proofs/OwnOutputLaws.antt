@@ -18,9 +18,9 @@ use Rattle.solids.specs.Cut.{cutMesh}
 use Rattle.solids.specs.Listings.{asElement}
 use Rattle.judging.specs.Judge.{judged}
 use Rattle.mesh.specs.Cutting.{cutOf}
-use Rattle.judging.proofs.AcceptedLaws.{accepted-clean, accepted-vertices}
-use Rattle.text.specs.File.{fileVerdict}
-use Rattle.text.specs.Records.{storedVertices, storedElements}
+use Rattle.judging.proofs.AcceptedTableLaws.{accepted-clean, accepted-vertices}
+use Rattle.format.specs.File.{fileVerdict}
+use Rattle.format.specs.Records.{storedVertices, storedElements}
 use Rattle.writing.specs.Written.{writtenFile}
 use Rattle.converting.specs.Conversion.{rooms, cutRoom, cutText, conversion}
 use Rattle.converting.proofs.CutLaws.{FromTable, cut-of-table}

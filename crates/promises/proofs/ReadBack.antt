@@ -37,11 +37,11 @@ use Rattle.signs.specs.Signs.{signsOf, acceptedTables, signVerdict, SignDone}
 use Rattle.signs.specs.declared.SignAnswer.{SignAnswer}
 use Rattle.signs.specs.declared.SignAnswer.the-variants as sign
 use Rattle.signs.specs.declared.SignCounts.{SignCounts}
-use Rattle.text.specs.Number.{coordinateOf, numberOf}
-use Rattle.text.specs.Records.{ReadDone}
-use Rattle.text.specs.declared.terms.Spelt.the-variants.{Of}
-use Rattle.text.specs.declared.terms.Coordinate.the-variants.{Thousandths}
-use Rattle.text.specs.declared.terms.Rooms.{Rooms}
+use Rattle.format.specs.Number.{coordinateOf, numberOf}
+use Rattle.text.specs.Reading.{ReadDone}
+use Rattle.format.specs.declared.Spelt.the-variants.{Of}
+use Rattle.format.specs.declared.Coordinate.the-variants.{Thousandths}
+use Rattle.format.specs.declared.Rooms.{Rooms}
 use Rattle.text.specs.declared.ReadAnswer.{ReadAnswer}
 use Rattle.text.specs.declared.ReadAnswer.the-variants as read
 use Rattle.text.specs.declared.ReadCounts.{ReadCounts}

@@ -25,9 +25,9 @@ use Rattle.records.specs.WholeRecords.{isNumber}
 use Rattle.records.proofs.RecordLaws.{clean-faultless, faultless-clean}
 use Rattle.signs.specs.Signs.{acceptedTables}
 use Rattle.signs.proofs.SignedLaws.{sign-accepted}
-use Rattle.text.specs.File.{start}
-use Rattle.text.specs.Records.{roomsOf, verdictOf, ReadDone}
-use Rattle.text.specs.declared.terms.ReaderState.{ReaderState}
+use Rattle.format.specs.File.{start}
+use Rattle.text.specs.Reading.{roomsOf, verdictOf, ReadDone}
+use Rattle.format.specs.declared.ReaderState.{ReaderState}
 use Rattle.text.specs.declared.ReadAnswer.{ReadAnswer}
 use Rattle.text.specs.declared.ReadAnswer.the-variants as read
 use Rattle.text.proofs.Theorems.{read-unique}

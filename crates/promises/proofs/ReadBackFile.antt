@@ -18,11 +18,11 @@ use Rattle.faults.specs.Refusals.{accepted}
 use Rattle.faults.specs.declared.Finding.the-variants.{Clean}
 use Rattle.volume.specs.Volume.{inRange}
 use Rattle.records.specs.Record.{recordFinding, recordAt}
-use Rattle.text.specs.Line.{after}
-use Rattle.text.specs.File.{start, linesOf, atEnd, fileFrom, fileVerdict}
-use Rattle.text.specs.Records.{vertexRecords, elementRecords, recordsFrom, storedVertices, storedElements}
-use Rattle.text.specs.declared.terms.ReaderState.{ReaderState}
-use Rattle.text.specs.declared.terms.Rooms.{Rooms}
+use Rattle.format.specs.Line.{after}
+use Rattle.format.specs.File.{start, linesOf, atEnd, fileFrom, fileVerdict}
+use Rattle.format.specs.Records.{vertexRecords, elementRecords, recordsFrom, storedVertices, storedElements}
+use Rattle.format.specs.declared.ReaderState.{ReaderState}
+use Rattle.format.specs.declared.Rooms.{Rooms}
 use Rattle.writing.specs.Written.{closed, vertexLines, elementLines, afterLines, linesFrom, fileLines, writtenFile}
 use Rattle.promises.specs.ReadBack.{reading, ended, FileBack}
 use Rattle.promises.proofs.ReadBackLines.{Each, LineRead, vertex-read, element-read, end-read}

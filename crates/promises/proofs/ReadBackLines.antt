@@ -19,18 +19,18 @@ use Rattle.records.specs.Record.{kindOf, usedOf, spareOf, isKind, recordFinding
 use Rattle.records.specs.WholeRecords.{isNumber}
 use Rattle.records.proofs.RecordLaws.{IsOne, is-4, is-5, is-6, is-8, which-kind, used-length, record-parts, clean-faultless, clean-whole}
 use Rattle.faults.specs.declared.Finding.the-variants.{Clean}
-use Rattle.text.specs.Number.{numberOf, valueOf, whole}
-use Rattle.text.specs.Line.{markBytes, markWith, markOf, wants, roleOf, fieldsOf, areFields, firstOf, fieldVerdict, fieldsVerdict, badMark, tooMany, badShape, noRoom, badCounts, afterRole, after, lineVerdict}
-use Rattle.text.specs.Records.{vertexRecord, tipFirst, cornerFields, elementRecord, vertexRecords, elementRecords}
-use Rattle.text.specs.declared.terms.Mark.{Mark}
-use Rattle.text.specs.declared.terms.Mark.the-variants.{Vx, Te, Py, Pz, Pr, Hx, En, Unknown}
-use Rattle.text.specs.declared.terms.Role.{Role}
-use Rattle.text.specs.declared.terms.Role.the-variants.{VertexLine, ElementLine, EndLine}
-use Rattle.text.specs.declared.terms.Judged.the-variants.{Passed}
-use Rattle.text.specs.declared.terms.ReaderState.{ReaderState}
-use Rattle.text.specs.declared.terms.Rooms.{Rooms}
-use Rattle.text.proofs.FieldLaws.{some-bytes}
-use Rattle.text.proofs.QuickLines.{eight}
+use Rattle.format.specs.Number.{numberOf, valueOf, whole}
+use Rattle.format.specs.Line.{markBytes, markWith, markOf, wants, roleOf, fieldsOf, areFields, firstOf, fieldVerdict, fieldsVerdict, badMark, tooMany, badShape, noRoom, badCounts, afterRole, after, lineVerdict}
+use Rattle.format.specs.Records.{vertexRecord, tipFirst, cornerFields, elementRecord, vertexRecords, elementRecords}
+use Rattle.format.specs.declared.Mark.{Mark}
+use Rattle.format.specs.declared.Mark.the-variants.{Vx, Te, Py, Pz, Pr, Hx, En, Unknown}
+use Rattle.format.specs.declared.Role.{Role}
+use Rattle.format.specs.declared.Role.the-variants.{VertexLine, ElementLine, EndLine}
+use Rattle.format.specs.declared.Judged.the-variants.{Passed}
+use Rattle.format.specs.declared.ReaderState.{ReaderState}
+use Rattle.format.specs.declared.Rooms.{Rooms}
+use Rattle.format.proofs.FieldLaws.{some-bytes}
+use Rattle.format.proofs.FileRecordLaws.{corners-plain}
 use Rattle.writing.specs.Written.{decimal, coordinateText, lineWith, vertexLine, markOfKind, elementLine, endLine}
 use Rattle.promises.specs.ReadBack.{reading, ended, LineBack}
 use Rattle.promises.proofs.ReadBackNumbers.{free-append, decimal-free, decimal-some, number-back, value-back, coordinate-back, thousandths-back, coordinate-free, coordinate-some}
@@ -308,7 +308,7 @@ module _ (rooms : Rooms) (v e : ℕ) (fewVertices : v ≤ vertexLimit) (few : e 
           read-as (rw (mark .role) at (line-read rooms (reading v e) m (decimal k) (map decimal l) n)) refl
           (rw (its-mark rooms (reading v e) m (decimal k) (map decimal l) n, its-fields rooms (reading v e) m (decimal k) (map decimal l) n, mark .counted, mark .plain)
           (ap (λ (q : List ℕ). suc (length l) ∷ map (λ j. getD q j 0) (cornerFields false)) (numbers-read v fewVertices cornerWidth k l zs wide inside zeros)
-          ∙ ap (λ (q : List ℕ). suc (length l) ∷ q) (eight (k ∷ (l ++ zs)) (rw (length-append l zs) (omega arith)))))
+          ∙ ap (λ (q : List ℕ). suc (length l) ∷ q) (corners-plain (k ∷ (l ++ zs)) (rw (length-append l zs) (omega arith)))))
 
   no-corners : (kind : ℕ) → 0 ≡ kind → T (isKind kind) → ⊥
   no-corners kind q h = go (which-kind kind h)

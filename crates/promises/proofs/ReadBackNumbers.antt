@@ -14,10 +14,10 @@ use Rattle.laws.specs.Pieces.{split}
 use Rattle.laws.proofs.PieceLaws.{Free, split-joined, split-free}
 use Rattle.volume.specs.Volume.{inRange}
 use Rattle.volume.proofs.RangeLaws.{in-range-within}
-use Rattle.text.specs.Number.{appended, spelt, whole, decimals, signed, millimetres, unsigned, coordinateOf, thousandthsOf, numberOf, valueOf}
-use Rattle.text.specs.declared.terms.Spelt.the-variants.{Of}
-use Rattle.text.specs.declared.terms.Coordinate.the-variants.{Thousandths}
-use Rattle.text.proofs.QuickNumbers.{spelt-append}
+use Rattle.format.specs.Number.{digitOf, appended, spelt, whole, decimals, signed, millimetres, unsigned, coordinateOf, thousandthsOf, numberOf, valueOf}
+use Rattle.format.specs.declared.Spelt.the-variants.{Of}
+use Rattle.format.specs.declared.Coordinate.the-variants.{Thousandths}
+use Rattle.format.proofs.NumberLaws.{spelt-append}
 use Rattle.writing.specs.Written.{digit, digitsOf, decimal, signOf, millimetresOf, coordinateText}
 use Rattle.writing.proofs.DecimalLaws.{digits-short, tenth, decimal-digits}
 
@@ -64,7 +64,7 @@ decimal-some k = digits-some k k
 -- ---- what digits spell
 
 appended-digit : (n d : ℕ) → d < 10 → appended n (digit d) ≡ Of (n * 10 + d)
-unfolding appended
+unfolding appended digitOf
 appended-digit n d h =
     let e : digit d - digit0 ≡ d = omega arith in
     rw (le-leb digit0 (digit d) (omega arith), le-leb (digit d) digit9 (omega arith), e)

@@ -23,24 +23,24 @@ use Rattle.volume.specs.Volume.{inRange}
 use Rattle.records.specs.Record as record-of
 use Rattle.records.specs.Record.{kindOf, usedOf, spareOf, isKind}
 use Rattle.records.specs.WholeRecords.{isNumber}
-use Rattle.text.specs.Number.{cut, signed, millimetres, unsigned, coordinateOf, thousandthsIn, thousandthsOf, valueIn, numberOf, valueOf, whole}
-use Rattle.text.specs.Line.{markOf, roleOf, wants, fieldsOf, some, areFields, firstOf, numbersOf, judgeCoordinate, judgeVertex, first, fieldVerdict, fieldsVerdict, badShape, afterRole, after}
-use Rattle.text.specs.File.{start, linesOf, fileVerdict}
-use Rattle.text.specs.Records.{vertexRecord, elementRecord, vertexRecords, elementRecords, recordsFrom}
-use Rattle.text.specs.declared.terms.Mark.{Mark}
-use Rattle.text.specs.declared.terms.Mark.the-variants.{Vx, Te, Py, Pz, Pr, Hx, En, Unknown}
-use Rattle.text.specs.declared.terms.Role.{Role}
-use Rattle.text.specs.declared.terms.Role.the-variants.{VertexLine, ElementLine, EndLine, UnknownLine}
-use Rattle.text.specs.declared.terms.Spelt.{Spelt}
-use Rattle.text.specs.declared.terms.Spelt.the-variants.{Of, Not}
-use Rattle.text.specs.declared.terms.Coordinate.{Coordinate}
-use Rattle.text.specs.declared.terms.Coordinate.the-variants.{Thousandths, Wrong}
-use Rattle.text.specs.declared.terms.Judged.{Judged}
-use Rattle.text.specs.declared.terms.Judged.the-variants.{Passed, Failed}
-use Rattle.text.specs.declared.terms.ReaderState.{ReaderState}
-use Rattle.text.specs.declared.terms.Rooms.{Rooms}
-use Rattle.text.proofs.FieldLaws.{none-wanted, length-first}
-use Rattle.text.proofs.FileLaws.{Taken, accepted-holds}
+use Rattle.format.specs.Number.{cut, signed, millimetres, unsigned, coordinateOf, thousandthsIn, thousandthsOf, valueIn, numberOf, valueOf, whole}
+use Rattle.format.specs.Line.{markOf, roleOf, wants, fieldsOf, some, areFields, firstOf, numbersOf, judgeCoordinate, judgeVertex, first, fieldVerdict, fieldsVerdict, badShape, afterRole, after}
+use Rattle.format.specs.File.{start, linesOf, fileVerdict}
+use Rattle.format.specs.Records.{vertexRecord, elementRecord, vertexRecords, elementRecords, recordsFrom}
+use Rattle.format.specs.declared.Mark.{Mark}
+use Rattle.format.specs.declared.Mark.the-variants.{Vx, Te, Py, Pz, Pr, Hx, En, Unknown}
+use Rattle.format.specs.declared.Role.{Role}
+use Rattle.format.specs.declared.Role.the-variants.{VertexLine, ElementLine, EndLine, UnknownLine}
+use Rattle.format.specs.declared.Spelt.{Spelt}
+use Rattle.format.specs.declared.Spelt.the-variants.{Of, Not}
+use Rattle.format.specs.declared.Coordinate.{Coordinate}
+use Rattle.format.specs.declared.Coordinate.the-variants.{Thousandths, Wrong}
+use Rattle.format.specs.declared.Judged.{Judged}
+use Rattle.format.specs.declared.Judged.the-variants.{Passed, Failed}
+use Rattle.format.specs.declared.ReaderState.{ReaderState}
+use Rattle.format.specs.declared.Rooms.{Rooms}
+use Rattle.format.proofs.FieldLaws.{none-wanted, length-first}
+use Rattle.format.proofs.FileLaws.{Taken, accepted-holds}
 use Rattle.promises.proofs.ReadBackFile.{Ranged}
 
 -- ---- a coordinate that is read is within the limits

@@ -30,14 +30,16 @@ use Rattle.solids.proofs.SideLaws.{bool-iff}
 use Rattle.solids.proofs.RelistingLaws.{alike-there, alike-home}
 use Rattle.solids.proofs.Theorems.{proper-relisted, relisting-fitting, relisting-cut}
 use Rattle.records.specs.Record.{usedOf, elementOf, recordFinding, recordAt, elementAt, firstElements}
-use Rattle.judging.specs.Judge.{isFault, faultIn, badRecord, pairFits, misfit, badElement, judged, JudgeDone}
+use Rattle.tables.specs.JudgedRecords.{isFault, faultIn, badRecord}
+use Rattle.judging.specs.Judge.{pairFits, misfit, badElement, judged, JudgeDone}
 use Rattle.judging.specs.declared.JudgeAnswer.{JudgeAnswer}
 use Rattle.mesh.specs.declared.CutAnswer.{CutAnswer}
 use Rattle.signs.specs.declared.SignAnswer.{SignAnswer}
 use Rattle.mesh.specs.Cutting.{flat, cutOf, CutDone}
 use Rattle.vertices.specs.Vertices.{verticesJudged}
 use Rattle.signs.specs.Signs.{sound, signCounts, signsOf, SignDone, isAccepted}
-use Rattle.judging.proofs.JudgeLaws.{record-clean}
+use Rattle.tables.proofs.CleanRecordLaws.{record-clean}
+use Rattle.judging.proofs.TableVerdictLaws.{judged-by-tests}
 use Rattle.judging.proofs.AcceptanceLaws.{clean-proper}
 use Rattle.records.proofs.Theorems.{first-each}
 use Rattle.promises.specs.Tables.{RecordRelisted, TableRelisted}
@@ -183,8 +185,7 @@ module _ (v n : ℕ) where
   manyOf t = refuseIf (ltb elementLimit n) (refuse Many 0) (lengthOf t)
 
   whole-verdict : (t : List ℕ) → judged v n t ≡ refuseIf (ltb vertexLimit v) (refuse Many 0) (manyOf t)
-  unfolding judged
-  whole-verdict t = refl
+  whole-verdict t = judged-by-tests v n t
 
   module _ (t t′ : List ℕ) (w : TableRelisted n t t′) where
     -- the first record at fault is the same, with the same fault

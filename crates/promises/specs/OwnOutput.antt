@@ -5,8 +5,8 @@ use lib.ListN.{getD}
 use Rattle.faults.specs.Refusals.{Verdict, andThen}
 use Rattle.solids.specs.Solids.{Vertex, Tet}
 use Rattle.mesh.specs.Cutting.{cutOf}
-use Rattle.text.specs.File.{fileVerdict}
-use Rattle.text.specs.Records.{storedElements}
+use Rattle.format.specs.File.{fileVerdict}
+use Rattle.format.specs.Records.{storedElements}
 use Rattle.converting.specs.Conversion.{rooms, cutRoom}
 
 -- the tetrahedra of an input, or the first fault

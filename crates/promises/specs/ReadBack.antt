@@ -12,12 +12,13 @@ use Rattle.laws.specs.Lent.{laid}
 use Rattle.faults.specs.Refusals.{accepted}
 use Rattle.volume.specs.Volume.{pointAt}
 use Rattle.records.specs.Record.{recordAt}
-use Rattle.text.specs.Line.{markOf, roleOf, lineVerdict}
-use Rattle.text.specs.File.{fileVerdict}
-use Rattle.text.specs.Records.{vertexRecords, elementRecords, storedVertices, storedElements, ReadDone}
-use Rattle.text.specs.declared.terms.ReaderState.{ReaderState}
-use Rattle.text.specs.declared.terms.Rooms.{Rooms}
-use Rattle.text.specs.declared.terms.Line.the-variants.{Next}
+use Rattle.format.specs.Line.{markOf, roleOf, lineVerdict}
+use Rattle.format.specs.File.{fileVerdict}
+use Rattle.format.specs.Records.{vertexRecords, elementRecords, storedVertices, storedElements}
+use Rattle.text.specs.Reading.{ReadDone}
+use Rattle.format.specs.declared.ReaderState.{ReaderState}
+use Rattle.format.specs.declared.Rooms.{Rooms}
+use Rattle.format.specs.declared.Line.the-variants.{Next}
 use Rattle.text.specs.declared.ReadAnswer.{ReadAnswer}
 use Rattle.text.specs.declared.ReadAnswer.the-variants as read
 use Rattle.writing.specs.Written.{closed, vertexLine, elementLine, endLine, writtenFile, writeVertexVerdict, writeElementVerdict, writeEndVerdict}

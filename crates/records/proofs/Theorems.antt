@@ -12,9 +12,9 @@ use Rattle.faults.specs.declared.Finding.{Finding}
 use Rattle.faults.specs.declared.Finding.the-variants.{Clean}
 use Rattle.solids.specs.declared.Solid.{Solid}
 use Rattle.solids.specs.declared.Vertex.{Vertex}
-use Rattle.solids.specs.Solids.{Element, cornersOf, at}
+use Rattle.solids.specs.Solids.{Tet, Element, cornersOf, at}
 use Rattle.solids.specs.Fit.{proper}
-use Rattle.records.specs.Record.{kindOf, usedOf, spareOf, recordOf, cornerAt, solidOf, elementOf, recordFinding, recordAt, elementAt, firstElements, recordCount}
+use Rattle.records.specs.Record.{kindOf, usedOf, spareOf, recordOf, asRecord, cornerAt, solidOf, elementOf, recordFinding, recordAt, elementAt, firstElements, recordCount}
 use Rattle.records.specs.WholeRecords.{isNumber, Faultless, Whole, WholeTable}
 use Rattle.records.proofs.RecordLaws as L
 use Rattle.records.proofs.GatheredLaws as G
@@ -35,6 +35,14 @@ kind-unique r a b = one
 -- `corner`
 pub corner-unique : (r : List ℕ) (p : ℕ) (a b : Vertex) → a .0 ≡ cornerAt r p → b .0 ≡ cornerAt r p → a ≡ b
 corner-unique r p a b e f = λ i. record { 0 = one e f i }
+
+-- `corners_of`
+pub corners-unique : (r : List ℕ) (a b : List ℕ) → a ≡ usedOf r → b ≡ usedOf r → a ≡ b
+corners-unique r a b = one
+
+-- `tetrahedron_record`
+pub tetrahedron-unique : (t : Tet ℕ) (a b : List ℕ) → a ≡ asRecord t → b ≡ asRecord t → a ≡ b
+tetrahedron-unique t a b = one
 
 -- `record_count`
 pub count-unique : (t : List ℕ) (a b : ℕ) → a ≡ recordCount t → b ≡ recordCount t → a ≡ b

@@ -1,7 +1,9 @@
 // The element record: its fields, and how it is judged. The definitions stand in specs/, what is proved of them in proofs/Theorems.antt.
 ghost use mathlib.Core.Path.{_≡_};
+ghost use lib.ListN.{take, drop};
 ghost use Rattle.laws.specs.Words.{some, among, distinct};
-ghost use Rattle.records.specs.Record.{kindOf, isKind, solidOf, cornerAt, strayVertex, notZero, recordFinding, recordCount, recordAt};
+ghost use Rattle.records.specs.Record.{kindOf, usedOf, isKind, solidOf, cornerAt, strayVertex, notZero, recordFinding, recordCount, recordAt, asRecord};
+ghost use Rattle.solids.specs.Solids.{tet};
 use faults::Fault;
 use faults::Finding;
 use limits::CORNER_WIDTH;
@@ -54,6 +56,34 @@ pub fn corner(element: &[u16], place: Place) -> Vertex
     Vertex(element[at])
 }
 
+// The first n numbers, or all where they are fewer.
+fn front(numbers: &[u16], n: usize) -> &[u16]
+    ensures { λ r. ⌜ now r ≡ take n (now (numbers .entry)) ⌝ }
+{
+    if numbers.len() <= n {
+        return numbers;
+    }
+    &numbers[..n]
+}
+
+// The numbers behind the first n, or none where they are fewer.
+fn behind(numbers: &[u16], n: usize) -> &[u16]
+    ensures { λ r. ⌜ now r ≡ drop n (now (numbers .entry)) ⌝ }
+{
+    if numbers.len() <= n {
+        return &numbers[..0];
+    }
+    &numbers[n..]
+}
+
+// The vertex numbers of a record's corners.
+pub fn corners_of(element: &[u16]) -> &[u16]
+    ensures { λ r. ⌜ now r ≡ usedOf (now (element .entry)) ⌝ }
+{
+    let kind = kind_of(element) as usize;
+    front(front(behind(element, 1), CORNER_WIDTH), kind)
+}
+
 // How many whole records a table holds.
 pub fn record_count(table: &[u16]) -> usize
     ensures { λ r. ⌜ r ≡ recordCount (now (table .entry)) ⌝ }
@@ -75,6 +105,13 @@ pub fn record_at(table: &[u16], k: usize) -> &[u16]
     }
     let end = start + ELEMENT_WIDTH;
     &table[start..end]
+}
+
+// The record of a tetrahedron with these corners.
+pub fn tetrahedron_record(a: Vertex, b: Vertex, c: Vertex, d: Vertex) -> [u16; ELEMENT_WIDTH]
+    ensures { λ r. ⌜ r ≡ asRecord (tet (a .0) (b .0) (c .0) (d .0)) ⌝ }
+{
+    [4, a.0, b.0, c.0, d.0, 0, 0, 0, 0]
 }
 
 // A kind is 4, 5, 6 or 8.

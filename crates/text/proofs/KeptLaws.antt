@@ -14,21 +14,22 @@ use Rattle.faults.specs.Refusals.{accepted, refused, refuse}
 use Rattle.faults.specs.declared.Fault.{Fault}
 use Rattle.faults.specs.declared.Fault.the-variants as fault
 use Rattle.faults.specs.declared.Refusal.{Refusal}
-use Rattle.text.specs.Line.{markOf, roleOf, tooMany, afterRole, after, lineVerdict}
-use Rattle.text.specs.File.{start, linesOf, atEnd, fileFrom, fileVerdict}
-use Rattle.text.specs.Records.{vertexRecords, elementRecords, recordsFrom, verdictOf}
-use Rattle.text.specs.Loops.{Few, Own, Ready, StoredLine, LineTaken, LineRead, FileRead}
+use Rattle.format.specs.Line.{markOf, roleOf, tooMany, afterRole, after, lineVerdict}
+use Rattle.format.specs.File.{start, linesOf, atEnd, fileFrom, fileVerdict}
+use Rattle.format.specs.Records.{vertexRecords, elementRecords, recordsFrom}
+use Rattle.text.specs.Reading.{verdictOf}
+use Rattle.text.specs.ReadingLoops.{Few, Own, Ready, StoredLine, LineTaken, LineRead, FileRead}
 use Rattle.text.specs.declared.ReadAnswer.{ReadAnswer}
 use Rattle.text.specs.declared.ReadAnswer.the-variants.{Done, Refused}
-use Rattle.text.specs.declared.terms.Role.{Role}
-use Rattle.text.specs.declared.terms.Role.the-variants.{VertexLine, ElementLine, EndLine, UnknownLine}
-use Rattle.text.specs.declared.terms.ReaderState.{ReaderState}
-use Rattle.text.specs.declared.terms.Rooms.{Rooms}
-use Rattle.text.specs.declared.terms.Line.the-variants.{Next}
-use Rattle.text.specs.declared.terms.Step.{Step}
-use Rattle.text.specs.declared.terms.Step.the-variants as step
-use Rattle.text.proofs.FileLaws.{line-taken, file-end}
-use Rattle.text.proofs.RecordLaws.{vertexPlace, elementPlace, vertex-grows, element-grows, kept-front, records-none, records-line}
+use Rattle.format.specs.declared.Role.{Role}
+use Rattle.format.specs.declared.Role.the-variants.{VertexLine, ElementLine, EndLine, UnknownLine}
+use Rattle.format.specs.declared.ReaderState.{ReaderState}
+use Rattle.format.specs.declared.Rooms.{Rooms}
+use Rattle.format.specs.declared.Line.the-variants.{Next}
+use Rattle.text.specs.declared.file.Step.{Step}
+use Rattle.text.specs.declared.file.Step.the-variants as step
+use Rattle.format.proofs.FileLaws.{line-taken, file-end}
+use Rattle.format.proofs.FileRecordLaws.{vertexPlace, elementPlace, vertex-grows, element-grows, kept-front, records-none, records-line}
 
 -- ---- within the limits
 

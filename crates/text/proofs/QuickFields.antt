@@ -13,13 +13,14 @@ use lib.ListN.{length, take, drop, set, replicate, length-append, length-set}
 use lib.Seq.{take-set-le, take-suc-set}
 use borrow.Author.Tests.{ne-eqb, le-ltb}
 use Rattle.limits.specs.Limits.{lineEnd, space, minus, digit0, fieldsAt}
-use Rattle.text.specs.Number.{thousandthsOf, valueOf}
-use Rattle.text.specs.Line.{fieldVerdict}
-use Rattle.text.specs.QuickLoops.{CoordinateAt, NumberAt, Good, Each, ended, endOf, FieldsRead, Cleared}
-use Rattle.text.specs.declared.terms.Role.{Role}
-use Rattle.text.specs.declared.terms.Role.the-variants.{VertexLine, ElementLine}
-use Rattle.text.specs.declared.terms.ReaderState.{ReaderState}
-use Rattle.text.proofs.QuickNumbers.{above-lower}
+use Rattle.format.specs.Number.{thousandthsOf, valueOf}
+use Rattle.format.specs.Line.{fieldVerdict}
+use Rattle.text.specs.QuickLoops.{CoordinateAt, NumberAt, endOf, FieldsRead, Cleared}
+use Rattle.format.specs.GoodFields.{Good, Each, spaced}
+use Rattle.format.specs.declared.Role.{Role}
+use Rattle.format.specs.declared.Role.the-variants.{VertexLine, ElementLine}
+use Rattle.format.specs.declared.ReaderState.{ReaderState}
+use Rattle.format.proofs.NumberLaws.{above-lower}
 
 -- ---- one field
 
@@ -52,12 +53,17 @@ coordinate-says k = rw (k .is)
 
 -- ---- fields so far
 
+spaced-more : (fs : List (List ℕ)) (f r : List ℕ) → spaced (fs ++ (f ∷ [])) ++ r ≡ spaced fs ++ (space ∷ (f ++ r))
+spaced-more [] f r = ap (λ (l : List ℕ). space ∷ (l ++ r)) (append-nil f)
+spaced-more (g ∷ fs) f r = ap (λ (l : List ℕ). space ∷ l)
+    (append-assoc g (spaced (fs ++ (f ∷ []))) r ∙ ap (λ (l : List ℕ). g ++ l) (spaced-more fs f r) ∙ sym (append-assoc g (spaced fs) (space ∷ (f ++ r))))
+
 module _ {A : Type 0} (value : List ℕ → A) (state : ReaderState) (role : Role) (t : List ℕ) (base : ℕ) (old : List A) where
   -- k fields up to place `from`
   pub record SoFar (k from : ℕ) (table : List A) : Type 0 where
     pub fields : List (List ℕ)
     pub count : length fields ≡ k
-    pub here : drop fieldsAt t ≡ ended fields ++ drop from t
+    pub here : space ∷ drop fieldsAt t ≡ spaced fields ++ (space ∷ drop from t)
     pub each : Each (Good state role) fields
     pub size : length table ≡ length old
     pub kept : take base table ≡ take base old
@@ -68,13 +74,6 @@ module _ {A : Type 0} (value : List ℕ → A) (state : ReaderState) (role : Rol
 
   pub so-stop : {want k from : ℕ} {table : List A} → SoFar k from table → FieldsRead value state role want t base old 0 table
   so-stop s = record { size = s .size; kept = s .kept; done = λ h. absurd (h refl) }
-
-  ended-more : (fs : List (List ℕ)) (f r : List ℕ) → ended (fs ++ (f ∷ [])) ++ r ≡ ended fs ++ (f ++ (space ∷ r))
-  ended-more [] f r = append-assoc f (space ∷ []) r
-  ended-more (g ∷ fs) f r =
-      append-assoc g (space ∷ ended (fs ++ (f ∷ []))) r
-      ∙ ap (λ (x : List ℕ). g ++ (space ∷ x)) (ended-more fs f r)
-      ∙ sym (append-assoc g (space ∷ ended fs) (f ++ (space ∷ r)))
 
   each-more : (fs : List (List ℕ)) (f : List ℕ) → Each (Good state role) fs → Good state role f → Each (Good state role) (fs ++ (f ∷ []))
   each-more [] f e g = (g, tt)
@@ -95,13 +94,19 @@ module _ {A : Type 0} (value : List ℕ → A) (state : ReaderState) (role : Rol
     kept-more : take base (set table (base + k) v) ≡ take base old
     kept-more = take-set-le base table (base + k) v (omega arith) ∙ s .kept
 
+    count-more : length (s .fields ++ (f ∷ [])) ≡ k + 1
+    count-more = length-append (s .fields) (f ∷ []) ∙ ap (λ (m : ℕ). m + 1) (s .count)
+
+    here-more : (r : List ℕ) → drop from t ≡ f ++ r → space ∷ drop fieldsAt t ≡ spaced (s .fields ++ (f ∷ [])) ++ r
+    here-more r e = s .here ∙ rw e (sym (spaced-more (s .fields) f r))
+
     -- a field that a space ends
     pub so-more : (next : ℕ) → drop from t ≡ f ++ (space ∷ drop next t) → Good state role f → v ≡ value f → base + k < length table
         → SoFar (k + 1) next (set table (base + k) v)
     so-more next e g q h = record {
       fields = s .fields ++ (f ∷ []);
-      count = length-append (s .fields) (f ∷ []) ∙ ap (λ (m : ℕ). m + 1) (s .count);
-      here = s .here ∙ rw e (sym (ended-more (s .fields) f (drop next t)));
+      count = count-more;
+      here = here-more (space ∷ drop next t) e;
       each = each-more (s .fields) f (s .each) g;
       size = length-set table (base + k) v ∙ s .size;
       kept = kept-more;
@@ -115,13 +120,12 @@ module _ {A : Type 0} (value : List ℕ → A) (state : ReaderState) (role : Rol
       size = length-set table (base + k) v ∙ s .size;
       kept = kept-more;
       done = λ z. record {
-        fields = s .fields;
-        final = f;
-        count = rw (s .count) (sym (add-one k) ∙ w);
-        here = s .here ∙ rw e;
+        fields = s .fields ++ (f ∷ []);
+        some = omega (arith, count-more);
+        count = count-more ∙ w;
+        here = here-more (lineEnd ∷ drop next t) e;
         inside = i;
-        each = s .each;
-        good = g;
+        each = each-more (s .fields) f (s .each) g;
         front = rw (← w) (front-more q h);
       };
     }

@@ -13,35 +13,22 @@ use borrow.Author.Tests.{leb-false}
 use Rattle.limits.specs.Limits.{lineEnd, space, minus, fieldsAt, markWidth, vertexLimit, elementLimit, vertexWidth, elementWidth, cornerWidth}
 use Rattle.laws.specs.Pieces.{Pieces, rest, piece, split}
 use Rattle.laws.proofs.PieceLaws.{Free, split-joined, split-free}
-use Rattle.text.specs.Number.{thousandthsOf, numberOf, whole, valueOf}
-use Rattle.text.specs.Line.{markWith, markOf, roleOf, wants, fieldsOf, areFields, firstOf, fieldsVerdict, badMark, tooMany, badShape, noRoom, badCounts, afterRole, lineVerdict}
-use Rattle.text.specs.Records.{vertexRecord, tipFirst, cornerFields, elementRecord, vertexRecords, elementRecords}
-use Rattle.text.specs.Loops.{Own}
-use Rattle.text.specs.QuickLoops.{Above, Good, Each, ended, FieldsRead, Cleared, Room, ElementRead, LineQuick}
-use Rattle.text.specs.declared.terms.Mark.{Mark}
-use Rattle.text.specs.declared.terms.Mark.the-variants.{Vx, Te, Py, Pz, Pr, Hx, En, Unknown}
-use Rattle.text.specs.declared.terms.Role.{Role}
-use Rattle.text.specs.declared.terms.Role.the-variants.{VertexLine, ElementLine}
-use Rattle.text.specs.declared.terms.Judged.the-variants.{Passed}
-use Rattle.text.specs.declared.terms.ReaderState.{ReaderState}
-use Rattle.text.specs.declared.terms.Rooms.{Rooms}
-use Rattle.text.specs.declared.terms.Line.the-variants.{Next}
-use Rattle.text.proofs.FieldLaws.{some-bytes}
-use Rattle.text.proofs.LineLaws.{line-next}
-use Rattle.text.proofs.MarkLaws.{low-first, low-second}
-use Rattle.text.proofs.QuickNumbers.{above-append, above-lower, above-free}
+use Rattle.format.specs.Number.{thousandthsOf, numberOf, whole, valueOf}
+use Rattle.format.specs.Line.{markWith, markOf, roleOf, wants, fieldsOf, areFields, firstOf, fieldsVerdict, badMark, tooMany, badShape, noRoom, badCounts, afterRole, lineVerdict}
+use Rattle.format.specs.Records.{vertexRecord, tipFirst, cornerFields, elementRecord, vertexRecords, elementRecords}
+use Rattle.text.specs.ReadingLoops.{Own}
+use Rattle.text.specs.QuickLoops.{FieldsAt, FieldsRead, Cleared, Room, ElementRead, LineQuick}
+use Rattle.format.specs.declared.Mark.{Mark}
+use Rattle.format.specs.declared.Mark.the-variants.{Vx, Te, Py, Pz, Pr, Hx, En, Unknown}
+use Rattle.format.specs.declared.Role.{Role}
+use Rattle.format.specs.declared.Role.the-variants.{VertexLine, ElementLine}
+use Rattle.format.specs.declared.Judged.the-variants.{Passed}
+use Rattle.format.specs.declared.ReaderState.{ReaderState}
+use Rattle.format.specs.declared.Rooms.{Rooms}
+use Rattle.format.specs.declared.Line.the-variants.{Next}
+use Rattle.format.proofs.GoodLineLaws.{inPieces, lineOf, GoodLine, its-verdict, its-free, vertex-wants, wants-few, vertex-added, no-element-added, element-added, no-vertex-added}
 
 -- ---- the record of an element line
-
-pub wants-few : (m : Mark) → wants m ≤ cornerWidth
-wants-few Vx = omega arith
-wants-few Te = omega arith
-wants-few Py = omega arith
-wants-few Pz = omega arith
-wants-few Pr = omega arith
-wants-few Hx = omega arith
-wants-few En = omega arith
-wants-few Unknown = omega arith
 
 pub element-none : (mark : Mark) (state : ReaderState) (t elements : List ℕ) → ElementRead mark state t elements 0 elements
 element-none mark state t elements = record {
@@ -78,81 +65,7 @@ module _ (mark : Mark) (state : ReaderState) (t elements : List ℕ) where
         zeros = λ h. rw q at c;
       }
 
--- ---- fields
-
-abbrev inPieces : List (List ℕ) → List ℕ → Pieces
-inPieces [] f = rest f
-inPieces (g ∷ fs) f = piece g (inPieces fs f)
-
-module _ (state : ReaderState) (role : Role) where
-  spaceless : (f : List ℕ) → Good state role f → Free space f
-  spaceless f g = above-free minus space f (omega arith) (g .plain)
-
-  pieces-cut : (fs : List (List ℕ)) (f : List ℕ) → Each (Good state role) fs → Good state role f → split space (ended fs ++ f) ≡ inPieces fs f
-  pieces-cut [] f e g = split-free space f (spaceless f g)
-  pieces-cut (h ∷ fs) f e g =
-      ap (split space) (append-assoc h (space ∷ ended fs) f) ∙ split-joined space h (ended fs ++ f) (spaceless h (e .0)) ∙ ap (piece h) (pieces-cut fs f (e .1) g)
-
-  pieces-counted : (fs : List (List ℕ)) (f : List ℕ) → Each (Good state role) fs → Good state role f → areFields (suc (length fs)) (inPieces fs f) ≡ true
-  unfolding areFields
-  pieces-counted [] f e g = rw (some-bytes f (λ z. omega (arith, g .some)))
-  pieces-counted (h ∷ fs) f e g = rw (some-bytes h (λ z. omega (arith, e .0 .some))) (pieces-counted fs f (e .1) g)
-
-  pieces-pass : (fs : List (List ℕ)) (f : List ℕ) → Each (Good state role) fs → Good state role f → fieldsVerdict state role (inPieces fs f) ≡ Passed
-  unfolding fieldsVerdict
-  pieces-pass [] f e g = g .passes
-  pieces-pass (h ∷ fs) f e g = rw (e .0 .passes) (pieces-pass fs f (e .1) g)
-
-  -- no byte 10 stands in them
-  fields-high : (fs : List (List ℕ)) (f : List ℕ) → Each (Good state role) fs → Good state role f → Above 11 (ended fs ++ f)
-  fields-high [] f e g = above-lower minus 11 f (omega arith) (g .plain)
-  fields-high (h ∷ fs) f e g =
-      above-append 11 (h ++ (space ∷ ended fs)) f
-      (above-append 11 h (space ∷ ended fs) (above-lower minus 11 h (omega arith) (e .0 .plain)) (omega arith, ended-high fs (e .1)))
-      (above-lower minus 11 f (omega arith) (g .plain))
-    where
-      ended-high : (fs : List (List ℕ)) → Each (Good state role) fs → Above 11 (ended fs)
-      ended-high [] e = tt
-      ended-high (h ∷ fs) e = above-append 11 h (space ∷ ended fs) (above-lower minus 11 h (omega arith) (e .0 .plain)) (omega arith, ended-high fs (e .1))
-
-first-all : {A : Type 0} (value : List ℕ → A) (fs : List (List ℕ)) (f : List ℕ) → firstOf value (suc (length fs)) (inPieces fs f) ≡ map value (fs ++ (f ∷ []))
-unfolding firstOf
-first-all value [] f = refl
-first-all {A} value (h ∷ fs) f = ap (λ (l : List A). value h ∷ l) (first-all value fs f)
-
--- where there is no field, the number is 0
-none-left : (n : ℕ) → firstOf valueOf n (rest []) ≡ replicate n 0
-unfolding firstOf valueOf numberOf whole
-none-left zero = refl
-none-left (suc n) = ap (λ (l : List ℕ). 0 ∷ l) (none-left n)
-
-numbers-all : (n k : ℕ) (fs : List (List ℕ)) (f : List ℕ) → n ≡ suc (length fs) + k
-    → firstOf valueOf n (inPieces fs f) ≡ map valueOf (fs ++ (f ∷ [])) ++ replicate k 0
-unfolding firstOf
-numbers-all zero k fs f e = absurd (omega arith)
-numbers-all (suc n) k [] f e =
-    let q : n ≡ k = omega arith in
-    ap (λ (l : List ℕ). valueOf f ∷ l) (none-left n ∙ ap (λ (m : ℕ). replicate m 0) q)
-numbers-all (suc n) k (h ∷ fs) f e = ap (λ (l : List ℕ). valueOf h ∷ l) (numbers-all n k fs f (omega arith))
-
--- eight numbers, taken one by one
-pub eight : (l : List ℕ) → length l ≡ cornerWidth → map (λ k. getD l k 0) (cornerFields false) ≡ l
-eight [] h = absurd (omega arith)
-eight (a ∷ []) h = absurd (omega arith)
-eight (a ∷ b ∷ []) h = absurd (omega arith)
-eight (a ∷ b ∷ c ∷ []) h = absurd (omega arith)
-eight (a ∷ b ∷ c ∷ d ∷ []) h = absurd (omega arith)
-eight (a ∷ b ∷ c ∷ d ∷ e ∷ []) h = absurd (omega arith)
-eight (a ∷ b ∷ c ∷ d ∷ e ∷ f ∷ []) h = absurd (omega arith)
-eight (a ∷ b ∷ c ∷ d ∷ e ∷ f ∷ g ∷ []) h = absurd (omega arith)
-eight (a ∷ b ∷ c ∷ d ∷ e ∷ f ∷ g ∷ i ∷ []) h = refl
-eight (a ∷ b ∷ c ∷ d ∷ e ∷ f ∷ g ∷ i ∷ j ∷ l) h = absurd (omega arith)
-
 -- ---- a line
-
--- the mark of t, a space, and these fields
-abbrev lineOf : List ℕ → List (List ℕ) → List ℕ → List ℕ
-lineOf t fs f = getD t 0 0 ∷ getD t 1 0 ∷ space ∷ (ended fs ++ f)
 
 front-three : (t : List ℕ) → getD t markWidth 0 ≡ space → t ≡ getD t 0 0 ∷ getD t 1 0 ∷ space ∷ drop fieldsAt t
 front-three [] e = absurd (omega arith)
@@ -170,44 +83,34 @@ pub record Allowed (t : List ℕ) (rooms : Rooms) (state : ReaderState) (mark : 
   pub marked : mark ≡ markOf t
   pub said : role ≡ roleOf mark
 
-module _ (t : List ℕ) (rooms : Rooms) (state : ReaderState) (mark : Mark) (role : Role) (a : Allowed t rooms state mark role) where
-  no-low : markWith (getD t 0 0) (getD t 1 0) ≡ Unknown → ⊥
-  unfolding markOf badMark
-  no-low q = true≢false (sym (ap (badMark state) (a .said ∙ ap roleOf (a .marked ∙ q))) ∙ a .known)
+module _ {A : Type 0} {value : List ℕ → A} {t : List ℕ} {rooms : Rooms} {state : ReaderState} {mark : Mark} {role : Role} {want base n : ℕ} {table table′ : List A}
+    (a : Allowed t rooms state mark role) (d : FieldsAt value state role want t base table n table′) (w : want ≡ wants mark)
+    (counts : (p : Pieces) → badCounts state role p ≡ false)
+  where
+    -- the line at the front of t: its mark, and the fields that were read
+    abbrev line : List ℕ
+    line = lineOf (getD t 0 0) (getD t 1 0) (d .fields)
 
-  module _ (fs : List (List ℕ)) (f : List ℕ) (n : ℕ) (count : suc (length fs) ≡ wants mark) (here : drop fieldsAt t ≡ ended fs ++ (f ++ (lineEnd ∷ drop n t)))
-      (each : Each (Good state role) fs) (good : Good state role f) (counts : (p : Pieces) → badCounts state role p ≡ false)
-    where
-      its-fields : fieldsOf (lineOf t fs f) ≡ inPieces fs f
-      unfolding fieldsOf
-      its-fields = pieces-cut state role fs f each good
+    good : GoodLine rooms state mark role (getD t 0 0) (getD t 1 0) (d .fields)
+    unfolding markOf
+    good = record {
+      marked = a .marked;
+      said = a .said;
+      going = a .going;
+      known = a .known;
+      few = a .few;
+      some = d .some;
+      count = d .count ∙ w;
+      each = d .each;
+      room = a .room;
+      counts = counts (inPieces (d .fields));
+    }
 
-      its-mark : mark ≡ markOf (lineOf t fs f)
-      unfolding markOf
-      its-mark = a .marked
+    whole-text : t ≡ line ++ (lineEnd ∷ drop n t)
+    whole-text = front-three t (a .spaced) ∙ ap (λ (l : List ℕ). getD t 0 0 ∷ getD t 1 0 ∷ l) (d .here)
 
-      whole-text : t ≡ lineOf t fs f ++ (lineEnd ∷ drop n t)
-      whole-text =
-          front-three t (a .spaced)
-          ∙ ap (λ (l : List ℕ). getD t 0 0 ∷ getD t 1 0 ∷ space ∷ l) (here ∙ sym (append-assoc (ended fs) f (lineEnd ∷ drop n t)))
-
-      its-free : Free lineEnd (lineOf t fs f)
-      its-free = (
-        λ e. no-low (low-first (getD t 0 0) (getD t 1 0) (omega arith)),
-        (λ e. no-low (low-second (getD t 0 0) (getD t 1 0) (omega arith)), (λ e. omega arith, above-free 11 lineEnd (ended fs ++ f) (omega arith) (fields-high state role fs f each good))),
-      )
-
-      its-cut : split lineEnd t ≡ piece (lineOf t fs f) (split lineEnd (drop n t))
-      its-cut = ap (split lineEnd) whole-text ∙ split-joined lineEnd (lineOf t fs f) (drop n t) its-free
-
-      its-shape : badShape (wants mark) (lineOf t fs f) ≡ false
-      unfolding badShape
-      its-shape = rw (its-fields, ← count, pieces-counted state role fs f each good)
-
-      its-verdict : lineVerdict rooms state true (lineOf t fs f) ≡ Next (afterRole state role)
-      its-verdict =
-          sym (line-next rooms state (lineOf t fs f) mark role its-mark (a .said) (a .going) (a .known) (a .few) its-shape
-          (ap (fieldsVerdict state role) its-fields ∙ pieces-pass state role fs f each good) (a .room) (counts (fieldsOf (lineOf t fs f))))
+    its-cut : split lineEnd t ≡ piece line (split lineEnd (drop n t))
+    its-cut = ap (split lineEnd) whole-text ∙ split-joined lineEnd line (drop n t) (its-free good)
 
 pub allowed : (t : List ℕ) (rooms : Rooms) (state : ReaderState) (mark : Mark) (role r : Role) → r ≡ role → badMark state r ≡ false → tooMany state r ≡ false
     → noRoom rooms state r ≡ false → state .ended ≡ false → getD t markWidth 0 ≡ space → mark ≡ markOf t → r ≡ roleOf mark → Allowed t rooms state mark role
@@ -222,30 +125,11 @@ line-declined t mark rooms state vertices elements o = record { own = o; vertexF
 
 -- ---- a vertex
 
-vertex-wants : (m : Mark) → VertexLine ≡ roleOf m → wants m ≡ vertexWidth
-vertex-wants Vx e = refl
-vertex-wants Te e = let z : _≡_ {A = ℕ} 0 1 = cc in absurd (omega arith)
-vertex-wants Py e = let z : _≡_ {A = ℕ} 0 1 = cc in absurd (omega arith)
-vertex-wants Pz e = let z : _≡_ {A = ℕ} 0 1 = cc in absurd (omega arith)
-vertex-wants Pr e = let z : _≡_ {A = ℕ} 0 1 = cc in absurd (omega arith)
-vertex-wants Hx e = let z : _≡_ {A = ℕ} 0 1 = cc in absurd (omega arith)
-vertex-wants En e = let z : _≡_ {A = ℕ} 0 1 = cc in absurd (omega arith)
-vertex-wants Unknown e = let z : _≡_ {A = ℕ} 0 1 = cc in absurd (omega arith)
-
 module _ (t : List ℕ) (mark : Mark) (rooms : Rooms) (state : ReaderState) (vertices : List ℤ) (elements : List ℕ) (o : Own vertices elements) where
   module _ (a : Allowed t rooms state mark VertexLine) where
     vertex-counts : (p : Pieces) → badCounts state VertexLine p ≡ false
     unfolding badCounts
     vertex-counts p = refl
-
-    vertex-is : (fs : List (List ℕ)) (f l : List ℕ) → fieldsOf l ≡ inPieces fs f → suc (length fs) ≡ vertexWidth → VertexLine ≡ roleOf (markOf l)
-        → vertexRecords state (roleOf (markOf l)) l ≡ map thousandthsOf (fs ++ (f ∷ []))
-    unfolding vertexRecords vertexRecord
-    vertex-is fs f l e c r = rw (← r, e, ← c) (first-all thousandthsOf fs f)
-
-    no-element : (l : List ℕ) → VertexLine ≡ roleOf (markOf l) → elementRecords state (roleOf (markOf l)) l ≡ []
-    unfolding elementRecords
-    no-element l r = rw (← r)
 
     pub vertex-room : Room (vertexWidth * vertexLimit) (vertexWidth * state .vertices) vertexWidth vertices
     unfolding tooMany
@@ -261,24 +145,21 @@ module _ (t : List ℕ) (mark : Mark) (rooms : Rooms) (state : ReaderState) (ver
       elementFront = refl;
       done = λ h.
           let d = k .done h in
-          let c = d .count ∙ sym (vertex-wants mark (a .said)) in
-          let line = lineOf t (d .fields) (d .final) in
-          let s = its-mark t rooms state mark VertexLine a (d .fields) (d .final) n c (d .here) (d .each) (d .good) vertex-counts in
-          let r : VertexLine ≡ roleOf (markOf line) = a .said ∙ ap roleOf s in
+          let w = sym (vertex-wants mark (a .said)) in
+          let g = good a d w vertex-counts in
           let q : vertexWidth * (state .vertices + 1) ≡ vertexWidth * state .vertices + vertexWidth = omega arith in
           rw (← a .said) (record {
-            line = line;
-            cut = its-cut t rooms state mark VertexLine a (d .fields) (d .final) n c (d .here) (d .each) (d .good) vertex-counts;
+            line = line a d w vertex-counts;
+            cut = its-cut a d w vertex-counts;
             some = omega arith;
             inside = d .inside;
-            verdict = its-verdict t rooms state mark VertexLine a (d .fields) (d .final) n c (d .here) (d .each) (d .good) vertex-counts;
+            verdict = its-verdict g;
             own = record { vertexLength = k .size ∙ o .vertexLength; elementLength = o .elementLength };
             vertexTable =
                 ap (λ (m : ℕ). take m vertices′) q
                 ∙ d .front
-                ∙ ap (λ (l : List ℤ). take (vertexWidth * state .vertices) vertices ++ l)
-                (sym (vertex-is (d .fields) (d .final) line (its-fields t rooms state mark VertexLine a (d .fields) (d .final) n c (d .here) (d .each) (d .good) vertex-counts) (d .count) r));
-            elementTable = sym (append-nil _) ∙ ap (λ (l : List ℕ). take (elementWidth * state .elements) elements ++ l) (sym (no-element line r));
+                ∙ ap (λ (l : List ℤ). take (vertexWidth * state .vertices) vertices ++ l) (sym (vertex-added g));
+            elementTable = sym (append-nil _) ∙ ap (λ (l : List ℕ). take (elementWidth * state .elements) elements ++ l) (sym (no-element-added g));
           });
     }
 
@@ -296,34 +177,16 @@ module _ (t : List ℕ) (mark : Mark) (rooms : Rooms) (state : ReaderState) (ver
     unfolding badCounts
     element-counts p = refl
 
-    element-is : (fs : List (List ℕ)) (f l : List ℕ) → fieldsOf l ≡ inPieces fs f → suc (length fs) ≡ wants mark → mark ≡ markOf l → ElementLine ≡ roleOf (markOf l) → tipFirst mark ≡ false
-        → elementRecords state (roleOf (markOf l)) l ≡ wants mark ∷ (map valueOf (fs ++ (f ∷ [])) ++ replicate (cornerWidth - wants mark) 0)
-    unfolding elementRecords elementRecord
-    element-is fs f l e c m r p =
-        let w = wants-few mark in
-        let k : ℕ = cornerWidth - wants mark in
-        let numbers : List ℕ = map valueOf (fs ++ (f ∷ [])) ++ replicate k 0 in
-        let q : cornerWidth ≡ suc (length fs) + k = omega arith in
-        let z : length numbers ≡ cornerWidth =
-        simp (length-append, length-map, length-replicate) (omega arith) in
-        rw (← r, ← m, p, e)
-        (ap (λ (l : List ℕ). wants mark ∷ map (λ j. getD l j 0) (cornerFields false)) (numbers-all cornerWidth k fs f q)
-        ∙ ap (λ (l : List ℕ). wants mark ∷ l) (eight numbers z))
-
-    no-vertex : (l : List ℕ) → ElementLine ≡ roleOf (markOf l) → vertexRecords state (roleOf (markOf l)) l ≡ []
-    unfolding vertexRecords
-    no-vertex l r = rw (← r)
-
     element-front : (n : ℕ) (elements′ : List ℕ) (k : ElementRead mark state t elements n elements′) (h : n ≡ 0 → ⊥)
         → take (elementWidth * state .elements + elementWidth) elements′
         ≡ take (elementWidth * state .elements) elements
-        ++ (wants mark ∷ (map valueOf (k .corners h .done h .fields ++ (k .corners h .done h .final ∷ [])) ++ replicate (cornerWidth - wants mark) 0))
+        ++ (wants mark ∷ (map valueOf (k .corners h .done h .fields) ++ replicate (cornerWidth - wants mark) 0))
     element-front n elements′ k h =
         let base : ℕ = elementWidth * state .elements in
         let w = wants-few mark in
         let d = k .corners h .done h in
         let z = k .zeros h in
-        let vs : List ℕ = map valueOf (d .fields ++ (d .final ∷ [])) in
+        let vs : List ℕ = map valueOf (d .fields) in
         let zs : List ℕ = replicate (cornerWidth - wants mark) 0 in
         let q : base + elementWidth ≡ base + 1 + wants mark + (cornerWidth - wants mark) = omega arith in
         let s : take (base + 1) (set elements base (wants mark)) ≡ take base elements ++ (wants mark ∷ []) =
@@ -341,22 +204,19 @@ module _ (t : List ℕ) (mark : Mark) (rooms : Rooms) (state : ReaderState) (ver
       elementFront = k .kept;
       done = λ h.
           let d = k .corners h .done h in
-          let line = lineOf t (d .fields) (d .final) in
-          let s = its-mark t rooms state mark ElementLine a (d .fields) (d .final) n (d .count) (d .here) (d .each) (d .good) element-counts in
-          let r : ElementLine ≡ roleOf (markOf line) = a .said ∙ ap roleOf s in
+          let g = good a d refl element-counts in
           let q : elementWidth * (state .elements + 1) ≡ elementWidth * state .elements + elementWidth = omega arith in
           rw (← a .said) (record {
-            line = line;
-            cut = its-cut t rooms state mark ElementLine a (d .fields) (d .final) n (d .count) (d .here) (d .each) (d .good) element-counts;
+            line = line a d refl element-counts;
+            cut = its-cut a d refl element-counts;
             some = omega arith;
             inside = d .inside;
-            verdict = its-verdict t rooms state mark ElementLine a (d .fields) (d .final) n (d .count) (d .here) (d .each) (d .good) element-counts;
+            verdict = its-verdict g;
             own = record { vertexLength = o .vertexLength; elementLength = k .size ∙ o .elementLength };
-            vertexTable = sym (append-nil _) ∙ ap (λ (l : List ℤ). take (vertexWidth * state .vertices) vertices ++ l) (sym (no-vertex line r));
+            vertexTable = sym (append-nil _) ∙ ap (λ (l : List ℤ). take (vertexWidth * state .vertices) vertices ++ l) (sym (no-vertex-added g (k .plain h)));
             elementTable =
                 ap (λ (m : ℕ). take m elements′) q
                 ∙ element-front n elements′ k h
-                ∙ ap (λ (l : List ℕ). take (elementWidth * state .elements) elements ++ l)
-                (sym (element-is (d .fields) (d .final) line (its-fields t rooms state mark ElementLine a (d .fields) (d .final) n (d .count) (d .here) (d .each) (d .good) element-counts) (d .count) s r (k .plain h)));
+                ∙ ap (λ (l : List ℕ). take (elementWidth * state .elements) elements ++ l) (sym (element-added g (k .plain h)));
           });
     }

@@ -14,11 +14,13 @@ use lib.Seq.{drop-cons, getD-drop}
 use borrow.Author.Tests.{leb-true, le-leb, eqb-true, eqb-false, eq-eqb, ne-eqb}
 use Rattle.limits.specs.Limits.{comma, minus, point, digit0, digit9, wholeDigits, decimalDigits, numberDigits, coordinateLimit}
 use Rattle.laws.proofs.PieceLaws.{Free, split-joined, split-free}
-use Rattle.text.specs.Number.{appended, onto, spelt, whole, decimals, millimetres, unsigned, coordinateOf, numberOf}
-use Rattle.text.specs.QuickLoops.{Above, DigitsAt, WholeAt, Within, DecimalsAt, MagnitudeAt, CoordinateAt, NumberAt, scaled, startOf}
-use Rattle.text.specs.declared.terms.Spelt.{Spelt}
-use Rattle.text.specs.declared.terms.Spelt.the-variants.{Of, Not}
-use Rattle.text.proofs.NumberLaws.{appended-small}
+use Rattle.format.proofs.NumberLaws.{above-append, above-lower, above-free, digit-low, appended-small, spelt-above, spelt-append}
+use Rattle.format.specs.Number.{digitOf, appended, onto, spelt, whole, decimals, millimetres, unsigned, coordinateOf, numberOf}
+use Rattle.format.specs.GoodFields.{Above}
+use Rattle.text.specs.QuickLoops.{DigitsAt, WholeAt, Within, DecimalsAt, MagnitudeAt, CoordinateAt, NumberAt, scaled, startOf}
+use Rattle.format.specs.declared.Spelt.{Spelt}
+use Rattle.format.specs.declared.Spelt.the-variants.{Of, Not}
+use Rattle.format.proofs.NumberLaws.{appended-small}
 
 -- ---- bytes
 
@@ -35,52 +37,7 @@ from-place t i x e h =
     let j : i < length t = place-inside t i (rw e h) in
     drop-cons t i 0 j ∙ rw (e, add-one i)
 
-pub above-append : (b : ℕ) (x y : List ℕ) → Above b x → Above b y → Above b (x ++ y)
-above-append b [] y f g = g
-above-append b (a ∷ x) y f g = (f .0, above-append b x y (f .1) g)
-
-pub above-lower : (b c : ℕ) (l : List ℕ) → c ≤ b → Above b l → Above c l
-above-lower b c [] h f = tt
-above-lower b c (x ∷ l) h f = (omega (arith, f .0), above-lower b c l h (f .1))
-
--- a byte below b stands nowhere
-pub above-free : (b c : ℕ) (l : List ℕ) → c < b → Above b l → Free c l
-above-free b c [] h f = tt
-above-free b c (x ∷ l) h f = (λ e. omega (arith, f .0), above-free b c l h (f .1))
-
 -- ---- digits
-
-pub no-number : {X : Type 0} (n : ℕ) → Not ≡ Of n → X
-no-number n h = let z : _≡_ {A = ℕ} 0 1 = cc in absurd (omega arith)
-
--- a byte that is written after a number is a digit
-pub digit-low : (n x m : ℕ) → appended n x ≡ Of m → digit0 ≤ x
-unfolding appended
-digit-low n x m = by (leb digit0 x) refl
-  where
-    by : (a : Bool) → leb digit0 x ≡ a → cond a (cond (leb x digit9) (Of (n * 10 + (x - digit0))) Not) Not ≡ Of m → digit0 ≤ x
-    by true q e = leb-true digit0 x q
-    by false q e = no-number m e
-
-digit-above : (n m x : ℕ) (l : List ℕ) → ((k : ℕ) → spelt k l ≡ Of m → Above digit0 l) → (a : Spelt) → appended n x ≡ a
-    → onto a (λ k. spelt k l) ≡ Of m → Above digit0 (x ∷ l)
-digit-above n m x l ih (Of k) e h = (digit-low n x k e, ih k h)
-digit-above n m x l ih Not e h = no-number m h
-
-pub spelt-above : (n m : ℕ) (l : List ℕ) → spelt n l ≡ Of m → Above digit0 l
-unfolding spelt
-spelt-above n m [] h = tt
-spelt-above n m (x ∷ l) h = digit-above n m x l (λ k q. spelt-above k m l q) (appended n x) refl h
-
-pub spelt-append : (n : ℕ) (x y : List ℕ) → spelt n (x ++ y) ≡ onto (spelt n x) (λ m. spelt m y)
-unfolding spelt
-spelt-append n [] y = refl
-spelt-append n (a ∷ x) y = by (appended n a) (λ m. spelt-append m x y)
-  where
-    by : (s : Spelt) → ((m : ℕ) → spelt m (x ++ y) ≡ onto (spelt m x) (λ k. spelt k y))
-        → onto s (λ m. spelt m (x ++ y)) ≡ onto (onto s (λ m. spelt m x)) (λ k. spelt k y)
-    by (Of m) h = h m
-    by Not h = refl
 
 one-spelt : (n x m : ℕ) → appended n x ≡ Of m → spelt n (x ∷ []) ≡ Of m
 unfolding spelt
@@ -116,7 +73,7 @@ module _ (t : List ℕ) (i : ℕ) where
   -- ---- 0, or digits not starting with 0
 
   whole-one : (most n : ℕ) (l : List ℕ) → length l ≡ 1 → getD l 0 0 ≡ digit0 → spelt 0 l ≡ Of n → whole most l ≡ Of n
-  unfolding whole spelt appended
+  unfolding whole spelt appended digitOf
   whole-one most n [] h q e = absurd (omega arith)
   whole-one most n (x ∷ []) h q e = rw q (rw q at e)
   whole-one most n (x ∷ y ∷ l) h q e = absurd (omega arith)

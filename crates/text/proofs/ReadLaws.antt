@@ -9,12 +9,14 @@ use lib.IntN.{ℤ}
 use Rattle.limits.specs.Limits.{vertexLimit, elementLimit, vertexWidth, elementWidth}
 use Rattle.laws.specs.Lent.{laid}
 use Rattle.faults.specs.Refusals.{answerOf}
-use Rattle.text.specs.File.{fileVerdict}
-use Rattle.text.specs.Records.{storedVertices, storedElements, verdictOf, roomsOf, ReadDone}
+use Rattle.format.specs.File.{fileVerdict}
+use Rattle.format.specs.Records.{storedVertices, storedElements}
+use Rattle.text.specs.Reading.{verdictOf, roomsOf, ReadDone}
+use Rattle.text.specs.declared.ReadCounts.{ReadCounts}
 use Rattle.text.specs.declared.ReadAnswer.{ReadAnswer}
 use Rattle.text.specs.declared.ReadAnswer.the-variants.{Done, Refused}
-use Rattle.text.specs.Loops.{countsIn, FileRead}
-use Rattle.text.proofs.AcceptedLaws.{file-fits}
+use Rattle.text.specs.ReadingLoops.{countsIn, FileRead}
+use Rattle.format.proofs.AcceptedFileLaws.{file-fits}
 
 -- the counts of an answer are within the limits, and their records within the tables
 pub record Copyable (vertices : List ℤ) (elements : List ℕ) (r : ReadAnswer) : Type 0 where
@@ -39,14 +41,14 @@ module _ (file : List ℕ) (vertices : List ℤ) (elements : List ℕ) where
       }
   copyable (Refused s) judged = record { vertexLimited = omega arith; elementLimited = omega arith; vertexRoom = zero-le; elementRoom = zero-le }
 
-  pub read-done : (r : ReadAnswer) (kept : List ℤ) (kept′ : List ℕ) (vertices′ : List ℤ) (elements′ : List ℕ)
-      → FileRead file (roomsOf vertices elements) r kept kept′
-      → vertices′ ≡ laid (take (vertexWidth * countsIn r .vertices) kept) vertices
-      → elements′ ≡ laid (take (elementWidth * countsIn r .elements) kept′) elements
+  pub read-done : (r : ReadAnswer) (kept : List ℤ) (kept′ : List ℕ) (vertices′ : List ℤ) (elements′ : List ℕ) (n : ReadCounts)
+      → FileRead file (roomsOf vertices elements) r kept kept′ → n ≡ countsIn r
+      → vertices′ ≡ laid (take (vertexWidth * n .vertices) kept) vertices
+      → elements′ ≡ laid (take (elementWidth * n .elements) kept′) elements
       → ReadDone file vertices elements r vertices′ elements′
   unfolding storedVertices storedElements
-  read-done r kept kept′ vertices′ elements′ f v e = record {
+  read-done r kept kept′ vertices′ elements′ n f q v e = record {
     answer = ap (answerOf (0 ∷ 0 ∷ [])) (f .answer);
-    vertexTable = v ∙ rw (← f .vertexTable, f .answer);
-    elementTable = e ∙ rw (← f .elementTable, f .answer);
+    vertexTable = v ∙ rw (q, ← f .vertexTable, f .answer);
+    elementTable = e ∙ rw (q, ← f .elementTable, f .answer);
   }

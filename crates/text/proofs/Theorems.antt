@@ -1,34 +1,28 @@
--- What reading promises, in the words of specs/.
+-- What reading promises, in the words of specs/. A reader starts here.
 --   read-unique         two answers and two pairs of tables that the contract allows are equal
 --   refused-keeps       a refused file leaves both tables as they were
 --   accepted-stores     an accepted file leaves its records, and behind them what stood there
 --   accepted-counts     its counts are those of its records, within the limits and the lent tables
---   comma-refused       a coordinate field that holds a comma is COMMA, whatever else is wrong in it
 --   accepted-no-comma   an accepted file holds no comma anywhere
 -- Assumes nothing.
-use Prim.Native.Nat.{ℕ, _*_, _≤_}
+use Prim.Native.Nat.{ℕ}
 use mathlib.Core.Path.{_≡_, sym, _∙_}
-use mathlib.Core.Bool.{true}
 use mathlib.Core.List.{List, [], _∷_}
-use lib.ListN.{length}
 use lib.IntN.{ℤ}
-use Rattle.limits.specs.Limits.{comma, vertexLimit, elementLimit, vertexWidth, elementWidth}
-use Rattle.laws.specs.Pieces.{split}
+use Rattle.limits.specs.Limits.{comma}
 use Rattle.laws.specs.Lent.{laid}
 use Rattle.laws.proofs.PieceLaws.{Free}
 use Rattle.laws.proofs.LentLaws.{laid-none}
 use Rattle.faults.proofs.Theorems.{answer-tells-verdict}
-use Rattle.faults.specs.declared.Fault.the-variants as fault
 use Rattle.faults.specs.declared.Refusal.{Refusal}
-use Rattle.text.specs.Number.{cut, coordinateOf}
-use Rattle.text.specs.File.{start, linesOf, fileVerdict}
-use Rattle.text.specs.Records.{vertexRecords, elementRecords, recordsFrom, storedVertices, storedElements, verdictOf, roomsOf, ReadDone}
+use Rattle.format.specs.File.{start, linesOf, fileVerdict}
+use Rattle.format.specs.Records.{vertexRecords, elementRecords, recordsFrom, storedVertices, storedElements}
+use Rattle.format.proofs.Theorems.{Counted}
+use Rattle.format.proofs.Theorems as format
+use Rattle.text.specs.Reading.{verdictOf, roomsOf, ReadDone}
 use Rattle.text.specs.declared.ReadAnswer.{ReadAnswer}
 use Rattle.text.specs.declared.ReadAnswer.the-variants.{Done, Refused}
 use Rattle.text.specs.declared.ReadCounts.{ReadCounts}
-use Rattle.text.specs.declared.terms.Coordinate.the-variants.{Wrong}
-use Rattle.text.proofs.AcceptedLaws.{file-fits}
-use Rattle.text.proofs.CommaLaws.{file-free}
 
 -- ---- two answers
 
@@ -76,38 +70,13 @@ module _ (file : List ℕ) (vertices : List ℤ) (elements : List ℕ) where
       let q = verdict-is (Done counts) v e d in
       (d .vertexTable ∙ rw (← q), d .elementTable ∙ rw (← q))
 
-  -- three numbers a vertex, nine an element, and as many as the counts say
-  pub record Counted (counts : ReadCounts) : Type 0 where
-    pub vertices-stored : length (recordsFrom vertexRecords start (linesOf file)) ≡ vertexWidth * counts .vertices
-    pub elements-stored : length (recordsFrom elementRecords start (linesOf file)) ≡ elementWidth * counts .elements
-    pub vertices-limited : counts .vertices ≤ vertexLimit
-    pub elements-limited : counts .elements ≤ elementLimit
-    pub vertices-fit : vertexWidth * counts .vertices ≤ length vertices
-    pub elements-fit : elementWidth * counts .elements ≤ length elements
-
-  pub accepted-counts : (counts : ReadCounts) (v : List ℤ) (e : List ℕ) → ReadDone file vertices elements (Done counts) v e → Counted counts
+  pub accepted-counts : (counts : ReadCounts) (v : List ℤ) (e : List ℕ) → ReadDone file vertices elements (Done counts) v e
+      → Counted (roomsOf vertices elements) file (counts .vertices) (counts .elements)
   unfolding verdictOf
   accepted-counts counts v e d =
-      let f = file-fits (roomsOf vertices elements) file (counts .vertices ∷ counts .elements ∷ []) (sym (verdict-is (Done counts) v e d)) in
-      let c = f .counts in
-      let p : counts .vertices ≡ f .final .vertices = cc in
-      let q : counts .elements ≡ f .final .elements = cc in
-      record {
-        vertices-stored = rw p (f .vertices);
-        elements-stored = rw q (f .elements);
-        vertices-limited = rw p (f .kept .vertices);
-        elements-limited = rw q (f .kept .elements);
-        vertices-fit = rw p (f .kept .vertexRoom);
-        elements-fit = rw q (f .kept .elementRoom);
-      }
+      format.accepted-counts (roomsOf vertices elements) file (counts .vertices) (counts .elements) (sym (verdict-is (Done counts) v e d))
 
   -- b stands in no place of a text: `Free b`
   pub accepted-no-comma : (counts : ReadCounts) (v : List ℤ) (e : List ℕ) → ReadDone file vertices elements (Done counts) v e → Free comma file
   unfolding verdictOf
-  accepted-no-comma counts v e d = file-free (roomsOf vertices elements) _ file (sym (verdict-is (Done counts) v e d))
-
--- ---- a comma
-
-pub comma-refused : (l : List ℕ) → cut (split comma l) ≡ true → coordinateOf l ≡ Wrong fault.Comma
-unfolding coordinateOf
-comma-refused l h = rw h
+  accepted-no-comma counts v e d = format.accepted-no-comma (roomsOf vertices elements) file _ (sym (verdict-is (Done counts) v e d))

@@ -1,7 +1,4 @@
--- The page's section "The text file", and what reading it says.
-pub mod Number
-pub mod Line
-pub mod File
-pub mod Records
-pub mod Loops
+-- What reading a text file says, in the words of the room format.
+pub mod Reading
+pub mod ReadingLoops
 pub mod QuickLoops

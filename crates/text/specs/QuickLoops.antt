@@ -7,27 +7,22 @@ use mathlib.Core.List.{List, [], _∷_, _++_, map}
 use lib.Dec.{eqb}
 use lib.ListN.{length, take, drop, set, replicate}
 use lib.IntN.{ℤ}
-use Rattle.limits.specs.Limits.{lineEnd, space, minus, point, digit0, fieldsAt, coordinateLimit, cornerWidth, vertexWidth, elementWidth}
+use Rattle.limits.specs.Limits.{lineEnd, space, minus, point, digit0, fieldsAt, numberDigits, coordinateLimit, cornerWidth, vertexWidth, elementWidth}
 use Rattle.laws.specs.Pieces.{split}
-use Rattle.text.specs.Number.{spelt, whole, decimals, signed, unsigned, coordinateOf, numberOf, valueOf}
-use Rattle.text.specs.Line.{wants, roleOf, fieldVerdict, afterRole}
-use Rattle.text.specs.Records.{tipFirst}
-use Rattle.text.specs.Loops.{Own, LineTaken}
-use Rattle.text.specs.declared.terms.Spelt.the-variants.{Of}
-use Rattle.text.specs.declared.terms.Coordinate.the-variants.{Thousandths}
-use Rattle.text.specs.declared.terms.Judged.the-variants.{Passed}
-use Rattle.text.specs.declared.terms.Role.{Role}
-use Rattle.text.specs.declared.terms.Role.the-variants.{ElementLine}
-use Rattle.text.specs.declared.terms.Mark.{Mark}
-use Rattle.text.specs.declared.terms.ReaderState.{ReaderState}
-use Rattle.text.specs.declared.terms.Rooms.{Rooms}
+use Rattle.format.specs.Number.{spelt, whole, decimals, signed, unsigned, coordinateOf, numberOf, valueOf}
+use Rattle.format.specs.Line.{wants, roleOf, afterRole}
+use Rattle.format.specs.Records.{tipFirst}
+use Rattle.format.specs.GoodFields.{Above, Good, Each, spaced}
+use Rattle.text.specs.ReadingLoops.{Own, LineTaken}
+use Rattle.format.specs.declared.Spelt.the-variants.{Of}
+use Rattle.format.specs.declared.Coordinate.the-variants.{Thousandths}
+use Rattle.format.specs.declared.Role.{Role}
+use Rattle.format.specs.declared.Role.the-variants.{ElementLine}
+use Rattle.format.specs.declared.Mark.{Mark}
+use Rattle.format.specs.declared.ReaderState.{ReaderState}
+use Rattle.format.specs.declared.Rooms.{Rooms}
 
 -- ---- numbers
-
--- no byte of l is below b
-abbrev pub Above : ℕ → List ℕ → Type 0
-Above b [] = Unit {0}
-Above b (x ∷ l) = (b ≤ x) × Above b l
 
 -- the digits from place i on, at most so many: the number that they spell, and the place behind them
 pub record DigitsAt (t : List ℕ) (i most n next : ℕ) : Type 0 where
@@ -100,7 +95,7 @@ pub record NumberAt (t : List ℕ) (i stop count n next : ℕ) : Type 0 where
   pub is : numberOf field ≡ Of n
   pub low : 0 < n
   pub high : n ≤ count
-  pub small : n < 10 ^ 4
+  pub small : n < 10 ^ numberDigits
   pub plain : Above digit0 field
 
 -- ---- fields
@@ -108,22 +103,6 @@ pub record NumberAt (t : List ℕ) (i stop count n next : ℕ) : Type 0 where
 -- the byte that ends field k of n
 abbrev pub endOf : ℕ → ℕ → ℕ
 endOf k n = cond (eqb k n) lineEnd space
-
--- a field that passes: one or more bytes, none a space, none a byte 10
-pub record Good (state : ReaderState) (role : Role) (f : List ℕ) : Type 0 where
-  pub some : 0 < length f
-  pub plain : Above minus f
-  pub passes : fieldVerdict state role f ≡ Passed
-
--- what holds of each text
-abbrev pub Each : (List ℕ → Type 0) → List (List ℕ) → Type 0
-Each P [] = Unit {0}
-Each P (f ∷ fs) = P f × Each P fs
-
--- fields, each with the space that ends it
-abbrev pub ended : List (List ℕ) → List ℕ
-ended [] = []
-ended (f ∷ fs) = f ++ (space ∷ ended fs)
 
 -- n members from index `base` on are within a table of that length
 pub record Room {A : Type 0} (most base n : ℕ) (table : List A) : Type 0 where
@@ -133,13 +112,12 @@ pub record Room {A : Type 0} (most base n : ℕ) (table : List A) : Type 0 where
 -- the line at the front of t has so many good fields and ends before place n; what they say stands in the table from index `base` on
 pub record FieldsAt {A : Type 0} (value : List ℕ → A) (state : ReaderState) (role : Role) (want : ℕ) (t : List ℕ) (base : ℕ) (table : List A) (n : ℕ) (table′ : List A) : Type 0 where
   pub fields : List (List ℕ)
-  pub final : List ℕ
-  pub count : suc (length fields) ≡ want
-  pub here : drop fieldsAt t ≡ ended fields ++ (final ++ (lineEnd ∷ drop n t))
+  pub some : 0 < length fields
+  pub count : length fields ≡ want
+  pub here : space ∷ drop fieldsAt t ≡ spaced fields ++ (lineEnd ∷ drop n t)
   pub inside : n ≤ length t
   pub each : Each (Good state role) fields
-  pub good : Good state role final
-  pub front : take (base + want) table′ ≡ take base table ++ map value (fields ++ (final ∷ []))
+  pub front : take (base + want) table′ ≡ take base table ++ map value fields
 
 -- the same, or 0 where it is declined; what stands before index `base` is left alone
 pub record FieldsRead {A : Type 0} (value : List ℕ → A) (state : ReaderState) (role : Role) (want : ℕ) (t : List ℕ) (base : ℕ) (table : List A) (n : ℕ) (table′ : List A) : Type 0 where

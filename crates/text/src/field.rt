@@ -1,26 +1,26 @@
 // The fields of a line: their number and spacing, what each says, and what is wrong with the first that is.
-use crate::number::coordinate;
-use crate::number::number;
-use crate::number::value;
-use crate::scan::find;
-use crate::scan::from;
-use crate::scan::past;
-use crate::scan::until;
-use crate::terms::Coordinate;
-use crate::terms::Judged;
-use crate::terms::ReaderState;
-use crate::terms::Role;
-use crate::terms::Spelt;
 use faults::Fault;
+use format::Coordinate;
+use format::Judged;
+use format::ReaderState;
+use format::Role;
+use format::Spelt;
 use limits::CORNER_WIDTH;
 use limits::FIELDS_AT;
 use limits::MARK_WIDTH;
 use limits::SPACE;
+use numbers::coordinate;
+use numbers::number;
+use numbers::scan::find;
+use numbers::scan::from;
+use numbers::scan::past;
+use numbers::scan::until;
+use numbers::value;
 ghost use mathlib.Core.Path.{_≡_};
 ghost use Rattle.limits.specs.Limits.{space};
 ghost use Rattle.laws.specs.Pieces.{split};
-ghost use Rattle.text.specs.Number.{coordinateOf, numberOf};
-ghost use Rattle.text.specs.Line.{areFields, badShape, numbersOf, judgeCoordinate, judgeCount, judgeVertex, fieldVerdict, fieldsVerdict};
+ghost use Rattle.format.specs.Number.{coordinateOf, numberOf};
+ghost use Rattle.format.specs.Line.{areFields, badShape, numbersOf, judgeCoordinate, judgeCount, judgeVertex, fieldVerdict, fieldsVerdict};
 
 // Whether s is n fields with one space between two.
 fn are_fields(s: &[u8], n: usize) -> bool

@@ -7,25 +7,30 @@ use crate::line::open_line;
 use crate::mark::mark_of;
 use crate::mark::role_of;
 use crate::quick::quick_line;
-use crate::scan::find;
-use crate::scan::from;
-use crate::scan::until;
 use crate::store::keep_line;
-use crate::terms::Line;
-use crate::terms::ReaderState;
-use crate::terms::Rooms;
-use crate::terms::Step;
 use faults::Fault;
 use faults::Refusal;
+use format::Line;
+use format::ReaderState;
+use format::Rooms;
 use limits::ELEMENT_NUMBERS;
 use limits::FILE_LIMIT;
 use limits::LINE_END;
 use limits::VERTEX_NUMBERS;
+use numbers::scan::find;
+use numbers::scan::from;
+use numbers::scan::until;
 ghost use mathlib.Core.Path.{_≡_};
 ghost use Rattle.faults.specs.Refusals.{refused, refuse};
-ghost use Rattle.text.specs.File.{atEnd};
-ghost use Rattle.text.specs.Records.{verdictOf};
-ghost use Rattle.text.specs.Loops.{Ready, Own, LineRead, FileRead};
+ghost use Rattle.format.specs.File.{atEnd};
+ghost use Rattle.text.specs.Reading.{verdictOf};
+ghost use Rattle.text.specs.ReadingLoops.{Ready, Own, LineRead, FileRead};
+
+// What the line at the front of a text comes to: the state after it and how many bytes it takes with its byte 10, or its fault.
+pub enum Step {
+    Next(ReaderState, usize),
+    No(Fault),
+}
 
 // A fault with the place that it names.
 fn refused(fault: Fault, place: usize) -> ReadAnswer

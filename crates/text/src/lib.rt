@@ -3,18 +3,16 @@ mod field;
 mod file;
 mod line;
 mod mark;
-mod number;
 mod quick;
-mod scan;
 mod store;
-pub mod terms;
 
 use faults::Refusal;
+use format::Rooms;
 use limits::ELEMENT_NUMBERS;
 use limits::ELEMENT_WIDTH;
 use limits::VERTEX_NUMBERS;
 use limits::VERTEX_WIDTH;
-ghost use Rattle.text.specs.Records.{ReadDone};
+ghost use Rattle.text.specs.Reading.{ReadDone};
 
 // How many vertices and elements the file gave.
 pub struct ReadCounts {
@@ -32,7 +30,7 @@ pub enum ReadAnswer {
 pub fn read_mesh(file: &[u8], vertices: &mut [i32], elements: &mut [u16]) -> ReadAnswer
     ensures { λ r. ⌜ ReadDone (now (file .entry)) (now (vertices .entry)) (now (elements .entry)) r (now (vertices .exit)) (now (elements .exit)) ⌝ }
 {
-    let rooms = terms::Rooms {
+    let rooms = Rooms {
         vertices: vertices.len(),
         elements: elements.len(),
     };

@@ -5,24 +5,24 @@ use crate::field::numbers;
 use crate::mark::mark_of;
 use crate::mark::role_of;
 use crate::mark::wants;
-use crate::scan::from;
-use crate::terms::Judged;
-use crate::terms::Line;
-use crate::terms::ReaderState;
-use crate::terms::Role;
-use crate::terms::Rooms;
 use faults::Fault;
+use format::Judged;
+use format::Line;
+use format::ReaderState;
+use format::Role;
+use format::Rooms;
 use limits::ELEMENT_LIMIT;
 use limits::ELEMENT_WIDTH;
 use limits::FIELDS_AT;
 use limits::VERTEX_LIMIT;
 use limits::VERTEX_WIDTH;
+use numbers::scan::from;
 ghost use mathlib.Core.Path.{_≡_};
 ghost use mathlib.Core.Bool.{true, false};
 ghost use Rattle.limits.specs.Limits.{space};
 ghost use Rattle.laws.specs.Pieces.{split};
-ghost use Rattle.text.specs.Line.{badMark, tooMany, noRoom, badCounts, afterRole, lineVerdict};
-ghost use Rattle.text.specs.Loops.{Few, openFault};
+ghost use Rattle.format.specs.Line.{badMark, tooMany, noRoom, badCounts, afterRole, lineVerdict};
+ghost use Rattle.text.specs.ReadingLoops.{Few, openFault};
 
 // Whether the mark is unknown, or VX after an element.
 pub fn bad_mark(state: ReaderState, role: Role) -> bool

@@ -1,10 +1,10 @@
 // The mark of a line, and what it tells: how many fields, and what the line is.
-use crate::terms::Mark;
-use crate::terms::Role;
+use format::Mark;
+use format::Role;
 use limits::MARK_WIDTH;
 ghost use mathlib.Core.Path.{_≡_};
-ghost use Rattle.text.specs.Line.{markWith, markOf, wants, roleOf};
-ghost use Rattle.text.specs.Records.{tipFirst};
+ghost use Rattle.format.specs.Line.{markWith, markOf, wants, roleOf};
+ghost use Rattle.format.specs.Records.{tipFirst};
 
 // The mark with the bytes a and b, read as one number of two bytes: 0x56 is V, 0x58 is X, and so on.
 fn mark_with(a: u8, b: u8) -> Mark

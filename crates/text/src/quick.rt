@@ -6,12 +6,11 @@ use crate::line::too_many;
 use crate::mark::role_of;
 use crate::mark::tip_first;
 use crate::mark::wants;
-use crate::number::appended;
-use crate::terms::Mark;
-use crate::terms::ReaderState;
-use crate::terms::Role;
-use crate::terms::Rooms;
-use crate::terms::Spelt;
+use format::Mark;
+use format::ReaderState;
+use format::Role;
+use format::Rooms;
+use format::Spelt;
 use limits::DECIMAL_DIGITS;
 use limits::ELEMENT_NUMBERS;
 use limits::ELEMENT_WIDTH;
@@ -27,13 +26,14 @@ use limits::VERTEX_NUMBERS;
 use limits::VERTEX_WIDTH;
 use limits::WHOLE_DIGITS;
 use limits::ZERO;
+use numbers::digit;
 ghost use mathlib.Core.Path.{_≡_};
 ghost use Prim.Native.Nat.{_*_, _-_, _≤_, _<_};
 ghost use lib.ListN.{getD};
 ghost use Rattle.limits.specs.Limits.{wholeDigits, vertexLimit, elementLimit, vertexWidth, elementWidth};
-ghost use Rattle.text.specs.Number.{thousandthsOf, valueOf};
-ghost use Rattle.text.specs.Line.{markOf};
-ghost use Rattle.text.specs.Loops.{Ready};
+ghost use Rattle.format.specs.Number.{thousandthsOf, valueOf};
+ghost use Rattle.format.specs.Line.{markOf};
+ghost use Rattle.text.specs.ReadingLoops.{Ready};
 ghost use Rattle.text.specs.QuickLoops.{DigitsAt, WholeAt, DecimalsAt, MagnitudeAt, CoordinateAt, NumberAt, FieldsRead, ElementRead, LineQuick, Room, Cleared, Within, scaled, startOf, endOf};
 
 // A number and the place behind its bytes; place 0 where there is none.
@@ -67,9 +67,9 @@ fn digit_run(t: &[u8], i: usize, most: usize) -> Run
     let mut j = i;
     let mut left = most;
     while 0 < left {
-        match appended(n, byte_at(t, j)) {
-            Spelt::Of(m) => {
-                n = m;
+        match digit(byte_at(t, j)) {
+            Spelt::Of(d) => {
+                n = n * 10 + d;
             }
             Spelt::Not => return Run { value: n, next: j },
         }

@@ -19,7 +19,7 @@ use Rattle.faults.specs.declared.Refusal.{Refusal}
 use Rattle.faults.proofs.Theorems.{answer-tells-verdict}
 use Rattle.volume.specs.Volume.{inRange}
 use Rattle.records.specs.Record.{kindOf, recordFinding}
-use Rattle.text.specs.declared.terms.Mark.the-variants.{Te, Py, Pz, Pr, Hx, Unknown}
+use Rattle.format.specs.declared.Mark.the-variants.{Te, Py, Pz, Pr, Hx, Unknown}
 use Rattle.writing.specs.Written.{digitsOf, decimal, signOf, millimetresOf, coordinateText, closed, vertexLine, markOfKind, elementLine, endLine, refusalLine, inRoom, writeVertexVerdict, writeElementVerdict, writeEndVerdict}
 use Rattle.writing.specs.Writing.{writeRefusalVerdict, writeVerdict, WriteDone}
 use Rattle.writing.specs.declared.WriteAnswer.{WriteAnswer}

@@ -28,9 +28,9 @@ use Rattle.volume.proofs.RangeLaws.{in-range-within, coordinates}
 use Rattle.records.specs.Record.{kindOf, usedOf, cornerAt, recordFinding}
 use Rattle.records.specs.WholeRecords.{isNumber}
 use Rattle.records.proofs.RecordLaws.{clean-faultless, clean-whole, used-length, kind-small, corner-used}
-use Rattle.text.specs.Line.{markBytes}
-use Rattle.text.specs.declared.terms.Mark.{Mark}
-use Rattle.text.specs.declared.terms.Mark.the-variants.{Vx, Te, Py, Pz, Pr, Hx, En, Unknown}
+use Rattle.format.specs.Line.{markBytes}
+use Rattle.format.specs.declared.Mark.{Mark}
+use Rattle.format.specs.declared.Mark.the-variants.{Vx, Te, Py, Pz, Pr, Hx, En, Unknown}
 use Rattle.writing.specs.Written.{digit, decimal, signOf, millimetresOf, coordinateText, lineWith, closed, vertexLine, markOfKind, elementLine, endLine, refusalLine}
 use Rattle.writing.specs.WriteLoops.{Put}
 use Rattle.writing.proofs.DecimalLaws.{decimal-one, decimal-more, decimal-short}

@@ -15,11 +15,11 @@ use Rattle.volume.specs.Volume.{inRange}
 use Rattle.records.specs.Record.{kindOf, usedOf, recordFinding}
 use Rattle.faults.specs.declared.Fault.the-variants as fault
 use Rattle.faults.specs.declared.Refusal.{Refusal}
-use Rattle.text.specs.Line.{markBytes, after}
-use Rattle.text.specs.File.{start}
-use Rattle.text.specs.declared.terms.Mark.{Mark}
-use Rattle.text.specs.declared.terms.Mark.the-variants.{Vx, Te, Py, Pz, Pr, Hx, En, Unknown}
-use Rattle.text.specs.declared.terms.ReaderState.{ReaderState}
+use Rattle.format.specs.Line.{markBytes, after}
+use Rattle.format.specs.File.{start}
+use Rattle.format.specs.declared.Mark.{Mark}
+use Rattle.format.specs.declared.Mark.the-variants.{Vx, Te, Py, Pz, Pr, Hx, En, Unknown}
+use Rattle.format.specs.declared.ReaderState.{ReaderState}
 
 -- ---- numbers
 

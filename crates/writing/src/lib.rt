@@ -8,6 +8,7 @@ use crate::written::vertex_line;
 use faults::Fault;
 use faults::Finding;
 use faults::Refusal;
+use limits::ELEMENT_WIDTH;
 use limits::TETRAHEDRON_LIMIT;
 use limits::VERTEX_LIMIT;
 use records::judge_record;
@@ -74,7 +75,7 @@ fn put_vertex(x: i32, y: i32, z: i32, buffer: &mut [u8]) -> WriteAnswer
 }
 
 // The line of an element without a fault, in the same two ways.
-fn put_element(element: [u16; 9], buffer: &mut [u8]) -> WriteAnswer
+fn put_element(element: [u16; ELEMENT_WIDTH], buffer: &mut [u8]) -> WriteAnswer
     requires { ⌜ recordFinding vertexLimit element ≡ Clean ⌝ }
     ensures { λ r. ⌜ WriteDone (inRoom (length (now (buffer .entry))) (closed (elementLine element))) (now (buffer .entry)) r (now (buffer .exit)) ⌝ }
 {
@@ -97,7 +98,7 @@ pub fn write_vertex(x: i32, y: i32, z: i32, buffer: &mut [u8]) -> WriteAnswer
 }
 
 // The record of an element: KIND, VERTEX, SPARE, REPEAT, then ROOM.
-pub fn write_element(element: [u16; 9], buffer: &mut [u8]) -> WriteAnswer
+pub fn write_element(element: [u16; ELEMENT_WIDTH], buffer: &mut [u8]) -> WriteAnswer
     ensures { λ r. ⌜ WriteDone (writeElementVerdict element (length (now (buffer .entry)))) (now (buffer .entry)) r (now (buffer .exit)) ⌝ }
 {
     match judge_record(&element, VERTEX_LIMIT) {

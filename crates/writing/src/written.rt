@@ -2,6 +2,8 @@
 // finds no room is left out: what is promised of bytes is promised where all of them have room.
 use faults::Refusal;
 use faults::number_of;
+use format::Mark;
+use limits::ELEMENT_WIDTH;
 use limits::LINE_END;
 use limits::MINUS;
 use limits::POINT;
@@ -10,7 +12,6 @@ use limits::ZERO;
 use records::corner;
 use records::kind_of;
 use solids::Place;
-use text::terms::Mark;
 ghost use mathlib.Core.Path.{_≡_};
 ghost use mathlib.Core.List.{_∷_, []};
 ghost use Prim.Native.Nat.{_%_, _<_};
@@ -18,7 +19,7 @@ ghost use lib.IntN.{natAbs};
 ghost use Rattle.limits.specs.Limits.{space, vertexLimit};
 ghost use Rattle.faults.specs.declared.Finding.the-variants.{Clean};
 ghost use Rattle.records.specs.Record.{recordFinding};
-ghost use Rattle.text.specs.Line.{markBytes};
+ghost use Rattle.format.specs.Line.{markBytes};
 ghost use Rattle.writing.specs.Written.{digit, digitsOf, decimal, millimetresOf, coordinateText, closed, markOfKind, vertexLine, elementLine, endLine, refusalLine};
 ghost use Rattle.writing.specs.WriteLoops.{Put};
 
@@ -196,7 +197,7 @@ pub fn vertex_line(line: &mut [u8], x: i32, y: i32, z: i32) -> usize
 }
 
 // TE, PY, PR or HX and the vertex numbers, with its byte 10.
-pub fn element_line(line: &mut [u8], element: [u16; 9]) -> usize
+pub fn element_line(line: &mut [u8], element: [u16; ELEMENT_WIDTH]) -> usize
     requires { ⌜ recordFinding vertexLimit element ≡ Clean ⌝ }
     ensures { λ r. ⌜ Put (now (line .entry)) 0 (closed (elementLine element)) (now (line .exit)) r ⌝ }
 {

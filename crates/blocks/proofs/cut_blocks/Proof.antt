@@ -3,7 +3,7 @@
 use native.Mathlib.Omega.{arith}
 use borrow.Author.Needs.{needs}
 use denote.Ref.{now}
-use Rattle.judging.specs.JudgeLoops.{Accepted}
+use Rattle.judging.specs.Judgement.{Accepted}
 use Rattle.blocks.proofs.BlocksAnswerLaws.{judging-at, nothing-cut, all-cut}
 use Rattle.blocks.proofs.cut_blocks.Statement.{statement}
 use Rattle.blocks.proofs.cut_blocks.Tie as tie

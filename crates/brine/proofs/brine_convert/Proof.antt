@@ -20,9 +20,11 @@ same-length c = search needs
 
 returns : tie.Need-returns
 returns c =
-    let a = c .before .before .before .before .before .before .before .before .before .args in
+    let at-convert = c .before .before .before .before .before in
+    let start = at-convert .before .before .before .before in
+    let a = start .args in
     let told = c .before .before .of-convert in
-    let entry = c .before .before .before .before .before .convert in
+    let entry = at-convert .convert in
     let size : length (a .answer .now) ≡ 4 = search needs in
     record { answered = answered 1 (told .result) (a .answer .now) (told .ensures) (entry .ensures .left .answer) size (c .tell .ensures .0) (c .tell .ensures .1); left = entry .ensures .left .output }
 

@@ -23,9 +23,11 @@ same-length-2 c = search needs
 
 returns : tie.Need-returns
 returns c =
-    let a = c .before .before .before .before .before .before .before .before .before .before .before .args in
+    let at-read-mesh = c .before .before .before .before .before .before in
+    let start = at-read-mesh .before .before .before .before .before in
+    let a = start .args in
     let told = c .before .before .of-read in
-    let entry = c .before .before .before .before .before .before .read-mesh in
+    let entry = at-read-mesh .read-mesh in
     let size : length (a .answer .now) ≡ 5 = search needs in
     record { answered = answered 2 (told .result) (a .answer .now) (told .ensures) (entry .ensures .answer) size (c .tell .ensures .0) (c .tell .ensures .1); left = (λ i. (entry .ensures .vertexTable i, entry .ensures .elementTable i)) }
 

@@ -21,11 +21,12 @@ same-length c = search needs
 
 returns : tie.Need-returns
 returns c =
-    let s = c .before .before .before .before .before .before .before .before in
+    let at-write-vertex = c .before .before .before .before .before in
+    let s = at-write-vertex .before .before .before in
     let a = s .args in
     let told = c .before .before .of-write in
     let entry =
-    rw (toZ-ofZ (s .fits .x), toZ-ofZ (s .fits .y), toZ-ofZ (s .fits .z)) at (c .before .before .before .before .before .write-vertex .ensures) in
+    rw (toZ-ofZ (s .fits .x), toZ-ofZ (s .fits .y), toZ-ofZ (s .fits .z)) at (at-write-vertex .write-vertex .ensures) in
     let size : length (a .answer .now) ≡ 4 = search needs in
     record { answered = answered 1 (told .result) (a .answer .now) (told .ensures) (entry .answer) size (c .tell .ensures .0) (c .tell .ensures .1); left = entry .buffer }
 

@@ -26,53 +26,74 @@ enum-known-counts c = search needs
 
 mul-vertex-end : tie.Need-mul-vertex-end
 mul-vertex-end c =
+    let at-read-mesh = c .before .before .before .before .before in
+    let start = at-read-mesh .before .before .before .before .before in
     vertices-fit
-    (read-stored (now (c .before .before .before .before .before .before .before .before .before .before .args .input)) _ _ (length-replicate 12288 (pos 0)) (length-replicate {A = ℕ} 9216 0) (c .before .counts .given .1) (c .before .before .before .before .before .read-mesh .ensures))
+    (read-stored (now (start .args .input)) _ _ (length-replicate 12288 (pos 0)) (length-replicate {A = ℕ} 9216 0) (c .before .counts .given .1) (at-read-mesh .read-mesh .ensures))
 
 mul-element-end : tie.Need-mul-element-end
 mul-element-end c =
+    let at-read-mesh = c .before .before .before .before .before in
+    let start = at-read-mesh .before .before .before .before .before in
     elements-fit
-    (read-stored (now (c .before .before .before .before .before .before .before .before .before .before .args .input)) _ _ (length-replicate 12288 (pos 0)) (length-replicate {A = ℕ} 9216 0) (c .before .counts .given .1) (c .before .before .before .before .before .read-mesh .ensures))
+    (read-stored (now (start .args .input)) _ _ (length-replicate 12288 (pos 0)) (length-replicate {A = ℕ} 9216 0) (c .before .counts .given .1) (at-read-mesh .read-mesh .ensures))
 
 array-share-prefix-vertices : tie.Need-array-share-prefix-vertices
 array-share-prefix-vertices c =
+    let at-read-mesh = c .before .before .before .before .before in
+    let start = at-read-mesh .before .before .before .before .before in
     vertices-within
-    (read-stored (now (c .before .before .before .before .before .before .before .before .before .before .args .input)) _ _ (length-replicate 12288 (pos 0)) (length-replicate {A = ℕ} 9216 0) (c .before .counts .given .1) (c .before .before .before .before .before .read-mesh .ensures))
+    (read-stored (now (start .args .input)) _ _ (length-replicate 12288 (pos 0)) (length-replicate {A = ℕ} 9216 0) (c .before .counts .given .1) (at-read-mesh .read-mesh .ensures))
 
 slice-aggregate-cut-and-write : tie.Need-slice-aggregate-cut-and-write
 slice-aggregate-cut-and-write c =
-    read-stored (now (c .before .before .before .before .before .before .before .before .before .before .before .args .input)) _ _ (length-replicate 12288 (pos 0)) (length-replicate {A = ℕ} 9216 0) (c .before .before .counts .given .1) (c .before .before .before .before .before .before .read-mesh .ensures)
+    let at-read-mesh = c .before .before .before .before .before .before in
+    let start = at-read-mesh .before .before .before .before .before in
+    read-stored (now (start .args .input)) _ _ (length-replicate 12288 (pos 0)) (length-replicate {A = ℕ} 9216 0) (c .before .before .counts .given .1) (at-read-mesh .read-mesh .ensures)
     .vertexEnd
 
 array-share-prefix-elements : tie.Need-array-share-prefix-elements
 array-share-prefix-elements c =
+    let at-read-mesh = c .before .before .before .before .before .before in
+    let start = at-read-mesh .before .before .before .before .before in
     elements-within
-    (read-stored (now (c .before .before .before .before .before .before .before .before .before .before .before .args .input)) _ _ (length-replicate 12288 (pos 0)) (length-replicate {A = ℕ} 9216 0) (c .before .before .counts .given .1) (c .before .before .before .before .before .before .read-mesh .ensures))
+    (read-stored (now (start .args .input)) _ _ (length-replicate 12288 (pos 0)) (length-replicate {A = ℕ} 9216 0) (c .before .before .counts .given .1) (at-read-mesh .read-mesh .ensures))
 
 slice-aggregate-cut-and-write-2 : tie.Need-slice-aggregate-cut-and-write-2
 slice-aggregate-cut-and-write-2 c =
-    read-stored (now (c .before .before .before .before .before .before .before .before .before .before .before .before .args .input)) _ _ (length-replicate 12288 (pos 0)) (length-replicate {A = ℕ} 9216 0) (c .before .before .before .counts .given .1) (c .before .before .before .before .before .before .before .read-mesh .ensures)
+    let at-counts = c .before .before .before in
+    let at-read-mesh = at-counts .before .before .before .before in
+    let start = at-read-mesh .before .before .before .before .before in
+    read-stored (now (start .args .input)) _ _ (length-replicate 12288 (pos 0)) (length-replicate {A = ℕ} 9216 0) (at-counts .counts .given .1) (at-read-mesh .read-mesh .ensures)
     .elementEnd
 
 cut-and-write-requires : tie.Need-cut-and-write-requires
 cut-and-write-requires c κs =
+    let at-counts = c .before .before .before .before in
+    let at-read-mesh = at-counts .before .before .before .before in
+    let start = at-read-mesh .before .before .before .before .before in
     vertices-good
-    (read-stored (now (c .before .before .before .before .before .before .before .before .before .before .before .before .before .args .input)) _ _ (length-replicate 12288 (pos 0)) (length-replicate {A = ℕ} 9216 0) (c .before .before .before .before .counts .given .1) (c .before .before .before .before .before .before .before .before .read-mesh .ensures))
+    (read-stored (now (start .args .input)) _ _ (length-replicate 12288 (pos 0)) (length-replicate {A = ℕ} 9216 0) (at-counts .counts .given .1) (at-read-mesh .read-mesh .ensures))
 
 returns : tie.Need-returns
 returns c =
-    let a = c .before .before .before .before .before .before .before .before .before .before .args in
+    let at-read-mesh = c .before .before .before .before .before in
+    let start = at-read-mesh .before .before .before .before .before in
+    let a = start .args in
     reading-refused (now (a .input)) (now (a .output))
-    (read-refusal (now (a .input)) _ _ (length-replicate 12288 (pos 0)) (length-replicate {A = ℕ} 9216 0) (c .before .refusal .given .1) (c .before .before .before .before .before .read-mesh .ensures))
+    (read-refusal (now (a .input)) _ _ (length-replicate 12288 (pos 0)) (length-replicate {A = ℕ} 9216 0) (c .before .refusal .given .1) (at-read-mesh .read-mesh .ensures))
 
 same-length : tie.Need-same-length
 same-length c = search needs
 
 returns-2 : tie.Need-returns-2
 returns-2 c =
-    let a = c .before .before .before .before .before .before .before .before .before .before .before .before .before .before .before .before .args in
+    let at-counts = c .before .before .before .before .before .before .before in
+    let at-read-mesh = at-counts .before .before .before .before in
+    let start = at-read-mesh .before .before .before .before .before in
+    let a = start .args in
     reading-written (now (a .input)) (now (a .output))
-    (read-stored (now (c .before .before .before .before .before .before .before .before .before .before .before .before .before .before .before .before .args .input)) _ _ (length-replicate 12288 (pos 0)) (length-replicate {A = ℕ} 9216 0) (c .before .before .before .before .before .before .before .counts .given .1) (c .before .before .before .before .before .before .before .before .before .before .before .read-mesh .ensures))
+    (read-stored (now (start .args .input)) _ _ (length-replicate 12288 (pos 0)) (length-replicate {A = ℕ} 9216 0) (at-counts .counts .given .1) (at-read-mesh .read-mesh .ensures))
     (c .before .before .cut-and-write .ensures)
 
 pub convert-spec : {M : Type 1} → statement M

@@ -22,47 +22,60 @@ enum-known-counts c = search needs
 
 mul-end : tie.Need-mul-end
 mul-end c =
-    let a = c .before .before .before .before .before .before .before .before .args in
+    let at-cut-mesh = c .before .before .before .before in
+    let start = at-cut-mesh .before .before .before .before in
+    let a = start .args in
     cutting-fits
-    (cut-stored (a .vertex-count) (a .element-count) (now (a .elements)) _ (length-replicate {A = ℕ} 24576 0) (c .before .counts .given .1) (c .before .before .before .before .cut-mesh .ensures))
+    (cut-stored (a .vertex-count) (a .element-count) (now (a .elements)) _ (length-replicate {A = ℕ} 24576 0) (c .before .counts .given .1) (at-cut-mesh .cut-mesh .ensures))
 
 array-share-prefix-tetrahedra : tie.Need-array-share-prefix-tetrahedra
 array-share-prefix-tetrahedra c =
-    let a = c .before .before .before .before .before .before .before .before .args in
+    let at-cut-mesh = c .before .before .before .before in
+    let start = at-cut-mesh .before .before .before .before in
+    let a = start .args in
     cutting-room
-    (cut-stored (a .vertex-count) (a .element-count) (now (a .elements)) _ (length-replicate {A = ℕ} 24576 0) (c .before .counts .given .1) (c .before .before .before .before .cut-mesh .ensures))
+    (cut-stored (a .vertex-count) (a .element-count) (now (a .elements)) _ (length-replicate {A = ℕ} 24576 0) (c .before .counts .given .1) (at-cut-mesh .cut-mesh .ensures))
 
 slice-aggregate-write-cut : tie.Need-slice-aggregate-write-cut
 slice-aggregate-write-cut c =
-    let a = c .before .before .before .before .before .before .before .before .before .args in
+    let at-cut-mesh = c .before .before .before .before .before in
+    let start = at-cut-mesh .before .before .before .before in
+    let a = start .args in
     cut-stored (a .vertex-count) (a .element-count) (now (a .elements)) _ (length-replicate {A = ℕ} 24576 0) (c .before .before .counts .given .1)
-    (c .before .before .before .before .before .cut-mesh .ensures) .end
+    (at-cut-mesh .cut-mesh .ensures) .end
 
 write-cut-requires : tie.Need-write-cut-requires
 write-cut-requires c κs =
-    let s = c .before .before .before .before .before .before .before .before .before .before in
+    let at-counts = c .before .before .before in
+    let at-cut-mesh = at-counts .before .before .before in
+    let s = at-cut-mesh .before .before .before .before in
     let a = s .args in (
       s .pre,
       cutting-good
-          (cut-stored (a .vertex-count) (a .element-count) (now (a .elements)) _ (length-replicate {A = ℕ} 24576 0) (c .before .before .before .counts .given .1) (c .before .before .before .before .before .before .cut-mesh .ensures))
+          (cut-stored (a .vertex-count) (a .element-count) (now (a .elements)) _ (length-replicate {A = ℕ} 24576 0) (at-counts .counts .given .1) (at-cut-mesh .cut-mesh .ensures))
           (s .pre .few),
     )
 
 returns : tie.Need-returns
 returns c =
-    let a = c .before .before .before .before .before .before .before .before .args in
+    let at-cut-mesh = c .before .before .before .before in
+    let start = at-cut-mesh .before .before .before .before in
+    let a = start .args in
     cutting-refused (now (a .vertices)) (a .vertex-count) (now (a .elements)) (a .element-count) (now (a .output))
-    (cut-refusal (a .vertex-count) (a .element-count) (now (a .elements)) _ (length-replicate {A = ℕ} 24576 0) (c .before .refusal .given .1) (c .before .before .before .before .cut-mesh .ensures))
+    (cut-refusal (a .vertex-count) (a .element-count) (now (a .elements)) _ (length-replicate {A = ℕ} 24576 0) (c .before .refusal .given .1) (at-cut-mesh .cut-mesh .ensures))
 
 same-length : tie.Need-same-length
 same-length c = search needs
 
 returns-2 : tie.Need-returns-2
 returns-2 c =
-    let a = c .before .before .before .before .before .before .before .before .before .before .before .before .before .args in
+    let at-counts = c .before .before .before .before .before .before in
+    let at-cut-mesh = at-counts .before .before .before in
+    let start = at-cut-mesh .before .before .before .before in
+    let a = start .args in
     cutting-written (now (a .vertices)) (a .vertex-count) (now (a .elements)) (a .element-count) (now (a .output))
-    (cut-stored (a .vertex-count) (a .element-count) (now (a .elements)) _ (length-replicate {A = ℕ} 24576 0) (c .before .before .before .before .before .before .counts .given .1)
-    (c .before .before .before .before .before .before .before .before .before .cut-mesh .ensures))
+    (cut-stored (a .vertex-count) (a .element-count) (now (a .elements)) _ (length-replicate {A = ℕ} 24576 0) (at-counts .counts .given .1)
+    (at-cut-mesh .cut-mesh .ensures))
     (c .before .before .write-cut .ensures)
 
 pub cut-and-write-spec : {M : Type 1} → statement M

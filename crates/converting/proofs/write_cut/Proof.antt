@@ -17,18 +17,24 @@ put-mesh-requires : tie.Need-put-mesh-requires
 put-mesh-requires c κs = let s = c .before .before .before in (s .pre .0, (s .pre .1, le-of-eq (sym (length-replicate {A = ℕ} 264205 0))))
 
 returns : tie.Need-returns
-returns c = left-room (c .before .before .put-mesh .ensures) (now (c .before .before .before .before .before .before .args .output)) (c .if1 .taken)
+returns c =
+    let start = c .before .before .before .before .before .before in
+    left-room (c .before .before .put-mesh .ensures) (now (start .args .output)) (c .if1 .taken)
 
 array-share-prefix-text : tie.Need-array-share-prefix-text
 array-share-prefix-text c = search needs
 
 slice-aggregate-store : tie.Need-slice-aggregate-store
-slice-aggregate-store c = let s = c .before .before .before .before .before .before .before in put-count (c .before .before .before .put-mesh .ensures) (now (s .args .output))
+slice-aggregate-store c =
+    let at-put-mesh = c .before .before .before in
+    let start = at-put-mesh .before .before .before .before in
+    let s = start in put-count (at-put-mesh .put-mesh .ensures) (now (s .args .output))
 
 store-requires : tie.Need-store-requires
 store-requires c κs =
-    let s = c .before .before .before .before .before .before .before .before in
-    let e = put-count (c .before .before .before .before .put-mesh .ensures) (now (s .args .output)) in
+    let at-put-mesh = c .before .before .before .before in
+    let s = at-put-mesh .before .before .before .before in
+    let e = put-count (at-put-mesh .put-mesh .ensures) (now (s .args .output)) in
     omega (arith, c .before .before .if1 .left)
 
 same-length : tie.Need-same-length
@@ -36,8 +42,11 @@ same-length c = search needs
 
 returns-2 : tie.Need-returns-2
 returns-2 c =
-    left-stored (c .before .before .before .before .before .before .before .put-mesh .ensures)
-    (now (c .before .before .before .before .before .before .before .before .before .before .before .args .output)) (c .before .before .before .before .before .if1 .left)
+    let at-if1 = c .before .before .before .before .before in
+    let at-put-mesh = at-if1 .before .before in
+    let start = at-put-mesh .before .before .before .before in
+    left-stored (at-put-mesh .put-mesh .ensures)
+    (now (start .args .output)) (at-if1 .if1 .left)
     (c .before .before .store .ensures)
 
 pub write-cut-spec : {M : Type 1} → statement M

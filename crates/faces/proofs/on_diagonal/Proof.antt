@@ -18,7 +18,7 @@ returns-2 : tie.Need-returns-2
 returns-2 c = search needs
 
 returns-3 : tie.Need-returns-3
-returns-3 c = rw (c .before .before .before .before .before .before .face .given .1) (simp (ne-eqb _ _ (c .before .before .if1 .left)))
+returns-3 c = let k = c .before .before in rw (k .before .before .before .before .face .given .1) (simp (ne-eqb _ _ (k .if1 .left)))
 
 pub on-diagonal-spec : {M : Type 1} → statement M
 on-diagonal-spec = tie.close (tie.spec enum-told enum-known-face returns returns-2 returns-3)

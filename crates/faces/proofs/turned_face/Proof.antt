@@ -9,24 +9,31 @@ lowest-of-four-requires : tie.Need-lowest-of-four-requires
 lowest-of-four-requires c κs = search needs
 
 returns : tie.Need-returns
-returns c =
-    let m = c .before .before .before .lowest-of-four .ensures in
-    simp (is-lowest (c .if1 .taken) m)
+returns c = simp (is-lowest (c .if1 .taken) (c .before .before .before .lowest-of-four .ensures))
+
+-- the lowest of the four, once the first corner is not it
+abbrev lowest : tie.Else1 → tie.After-lowest-of-four
+lowest c = c .before .before .before
 
 returns-2 : tie.Need-returns-2
 returns-2 c =
-    let m = c .before .before .before .before .before .before .lowest-of-four .ensures in
-    simp (not-lowest (c .before .before .before .if1 .left) m, is-lowest (c .if2 .taken) m)
+    let k = c .before .before .before in
+    let m = lowest k .lowest-of-four .ensures in
+    simp (not-lowest (k .if1 .left) m, is-lowest (c .if2 .taken) m)
 
 returns-3 : tie.Need-returns-3
 returns-3 c =
-    let m = c .before .before .before .before .before .before .before .before .before .lowest-of-four .ensures in
-    simp (not-lowest (c .before .before .before .before .before .before .if1 .left) m, not-lowest (c .before .before .before .if2 .left) m, is-lowest (c .if3 .taken) m)
+    let l = c .before .before .before in
+    let k = l .before .before .before in
+    let m = lowest k .lowest-of-four .ensures in
+    simp (not-lowest (k .if1 .left) m, not-lowest (l .if2 .left) m, is-lowest (c .if3 .taken) m)
 
 returns-4 : tie.Need-returns-4
 returns-4 c =
-    let m = c .before .before .before .before .before .before .before .before .before .lowest-of-four .ensures in
-    simp (not-lowest (c .before .before .before .before .before .before .if1 .left) m, not-lowest (c .before .before .before .if2 .left) m, not-lowest (c .if3 .left) m)
+    let l = c .before .before .before in
+    let k = l .before .before .before in
+    let m = lowest k .lowest-of-four .ensures in
+    simp (not-lowest (k .if1 .left) m, not-lowest (l .if2 .left) m, not-lowest (c .if3 .left) m)
 
 pub turned-face-spec : {M : Type 1} → statement M
 turned-face-spec =

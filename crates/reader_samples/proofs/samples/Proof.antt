@@ -32,9 +32,12 @@ returns c = search needs
 
 add-t : tie.Need-add-t Inv-loop μ-loop
 add-t c =
-    let good = c .before .before .before .before .before .before .before .good in
-    let loop = c .before .before .before .before .before .loop in
-    let find = c .before .before .before .find in
+    let at-find = c .before .before .before in
+    let at-loop = at-find .before .before in
+    let start = at-loop .before .before in
+    let good = start .good in
+    let loop = at-loop .loop in
+    let find = at-find .find in
     omega (arith, find .ensures, c .if1 .left, loop .inv, good .0 .0)
 
 sub-t : tie.Need-sub-t Inv-loop μ-loop
@@ -57,8 +60,10 @@ loop-less c =
 
 loop-again : tie.Need-loop-again Inv-loop μ-loop
 loop-again c =
-    let loop = c .before .before .before .before .before .before .loop in
-    let find = c .before .before .before .before .find in
+    let at-find = c .before .before .before .before in
+    let at-loop = at-find .before .before in
+    let loop = at-loop .loop in
+    let find = at-find .find in
     simp (length-take, length-drop) (omega (arith, find .ensures, c .before .if1 .left, loop .inv))
 
 returns-2 : tie.Need-returns-2 Inv-loop μ-loop

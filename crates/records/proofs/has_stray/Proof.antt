@@ -54,8 +54,11 @@ cast-if2 c = omega (arith, c .shared-slice-known2 .given (c .before .before .bef
 
 returns-2 : tie.Need-returns-2 Inv-loop μ-loop
 returns-2 c =
-    let a = c .before .before .before .before .before .before .args in
-    some-here (strayVertex (a .limit)) 0 (c .before .before .before .before .before .loop .inv) (c .before .before .before .before .loop-test .taken)
+    let at-loop-test = c .before .before .before .before in
+    let at-loop = at-loop-test .before in
+    let start = at-loop .before in
+    let a = start .args in
+    some-here (strayVertex (a .limit)) 0 (at-loop .loop .inv) (at-loop-test .loop-test .taken)
     (high-strays (a .limit) _ (c .before .before .if1 .left) (c .if2 .taken))
 
 add-i : tie.Need-add-i Inv-loop μ-loop
@@ -66,8 +69,11 @@ loop-less c = search needs
 
 loop-again : tie.Need-loop-again Inv-loop μ-loop
 loop-again c =
-    let a = c .before .before .before .before .before .before .args in
-    some-next (strayVertex (a .limit)) 0 (c .before .before .before .before .before .loop .inv) (c .before .before .before .before .loop-test .taken)
+    let at-loop-test = c .before .before .before .before in
+    let at-loop = at-loop-test .before in
+    let start = at-loop .before in
+    let a = start .args in
+    some-next (strayVertex (a .limit)) 0 (at-loop .loop .inv) (at-loop-test .loop-test .taken)
     (others-stay (a .limit) _ (c .before .before .if1 .left) (c .if2 .left))
 
 returns-3 : tie.Need-returns-3 Inv-loop μ-loop

@@ -50,16 +50,22 @@ is-among-requires c κs = search needs
 
 returns : tie.Need-returns Inv-loop μ-loop
 returns c =
-    distinct-here (c .before .before .before .before .before .loop .inv) (c .before .before .before .before .loop-test .taken)
-    (sym (c .if1 .taken) ∙ met (c .before .before .before .before .before .before .before .args .numbers .now) (c .before .before .before .before .before .loop .i) _ (c .before .is-among .ensures))
+    let at-loop-test = c .before .before .before .before in
+    let at-loop = at-loop-test .before in
+    let start = at-loop .before .before in
+    distinct-here (at-loop .loop .inv) (at-loop-test .loop-test .taken)
+    (sym (c .if1 .taken) ∙ met (start .args .numbers .now) (at-loop .loop .i) _ (c .before .is-among .ensures))
 
 loop-less : tie.Need-loop-less Inv-loop μ-loop
 loop-less c = search needs
 
 loop-again : tie.Need-loop-again Inv-loop μ-loop
 loop-again c =
-    distinct-next (c .before .before .before .before .before .loop .inv) (c .before .before .before .before .loop-test .taken)
-    (sym (c .if1 .left) ∙ met (c .before .before .before .before .before .before .before .args .numbers .now) (c .before .before .before .before .before .loop .i) _ (c .before .is-among .ensures))
+    let at-loop-test = c .before .before .before .before in
+    let at-loop = at-loop-test .before in
+    let start = at-loop .before .before in
+    distinct-next (at-loop .loop .inv) (at-loop-test .loop-test .taken)
+    (sym (c .if1 .left) ∙ met (start .args .numbers .now) (at-loop .loop .i) _ (c .before .is-among .ensures))
 
 returns-2 : tie.Need-returns-2 Inv-loop μ-loop
 returns-2 c = distinct-end (c .before .loop .inv) (c .loop-test .left)

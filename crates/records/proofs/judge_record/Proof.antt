@@ -39,6 +39,48 @@ module _ (r : List ℕ) where
     unfolding kindOf
     of-spare e t = ap f (sym (part-from r (1 + getD r 0 0) ∙ spare-part r wide (getD r 0 0) refl)) ∙ sym e ∙ t
 
+-- ---- what is known after each test, stated where it is learnt
+
+abbrev start : tie.Else2 → tie.Start
+start c = c .before .before .before .before .before
+
+abbrev limit-of : tie.Else2 → ℕ
+limit-of c = start c .args .limit
+
+abbrev record-of : tie.Else2 → List ℕ
+record-of c = start c .args .element .now
+
+low : (c : tie.Else2) → getD (record-of c) 0 0 ≤ 8
+low c = small (getD (record-of c) 0 0) (c .before .is-kind .ensures) (c .if2 .left)
+
+wide : (c : tie.Else2) → length (record-of c) ≡ elementWidth
+wide c = c .before .before .before .if1 .left
+
+kind : (c : tie.Else2) → isKind (kindOf (record-of c)) ≡ true
+kind c = is-kind (record-of c) (c .before .is-kind .ensures) (c .if2 .left)
+
+-- the kind was tested before the vertex numbers, these before the unused ones, and these before the corners are compared
+abbrev kinded : tie.After-has-stray → tie.Else2
+kinded c = c .before .before .before
+
+strays : (c : tie.After-has-stray) {v : Bool} → c .has-stray .result ≡ v
+    → some (strayVertex (limit-of (kinded c))) (usedOf (record-of (kinded c))) ≡ v
+strays c = let k = kinded c in of-used (record-of k) (wide k) (some (strayVertex (limit-of k))) (c .has-stray .ensures)
+
+abbrev numbered : tie.After-has-nonzero → tie.After-has-stray
+numbered c = c .before .before
+
+spares : (c : tie.After-has-nonzero) {v : Bool} → c .has-nonzero .result ≡ v → some notZero (spareOf (record-of (kinded (numbered c)))) ≡ v
+spares c = let k = kinded (numbered c) in of-spare (record-of k) (wide k) (some notZero) (c .has-nonzero .ensures)
+
+abbrev spared : tie.After-is-distinct → tie.After-has-nonzero
+spared c = c .before .before
+
+corners : (c : tie.After-is-distinct) {v : Bool} → c .is-distinct .result ≡ v → distinct (usedOf (record-of (kinded (numbered (spared c))))) ≡ v
+corners c = let k = kinded (numbered (spared c)) in of-used (record-of k) (wide k) distinct (c .is-distinct .ensures)
+
+-- ---- the function
+
 returns : tie.Need-returns
 returns c = finding-short (c .before .before .args .limit) (c .before .before .args .element .now) (c .if1 .taken)
 
@@ -54,10 +96,10 @@ returns-2 c =
     finding-kind (a .limit) (a .element .now) (c .before .before .before .if1 .left) (no-kind (a .element .now) (c .before .is-kind .ensures) (c .if2 .taken))
 
 cast-end : tie.Need-cast-end
-cast-end c = omega (arith, small (getD (c .before .before .before .before .before .args .element .now) 0 0) (c .before .is-kind .ensures) (c .if2 .left))
+cast-end c = omega (arith, low c)
 
 add-end : tie.Need-add-end
-add-end c = omega (arith, small (getD (c .before .before .before .before .before .args .element .now) 0 0) (c .before .is-kind .ensures) (c .if2 .left))
+add-end c = omega (arith, low c)
 
 sub-used : tie.Need-sub-used
 sub-used c = search needs
@@ -66,16 +108,16 @@ part-used-start : tie.Need-part-used-start
 part-used-start c = search needs
 
 part-used-end : tie.Need-part-used-end
-part-used-end c = omega (arith, small (getD (c .before .before .before .before .before .args .element .now) 0 0) (c .before .is-kind .ensures) (c .if2 .left))
+part-used-end c = omega (arith, low c)
 
 mul-spare : tie.Need-mul-spare
-mul-spare c = omega (arith, small (getD (c .before .before .before .before .before .before .args .element .now) 0 0) (c .before .before .is-kind .ensures) (c .before .if2 .left))
+mul-spare c = omega (arith, low (c .before))
 
 sub-spare : tie.Need-sub-spare
-sub-spare c = omega (arith, small (getD (c .before .before .before .before .before .before .args .element .now) 0 0) (c .before .before .is-kind .ensures) (c .before .if2 .left))
+sub-spare c = omega (arith, low (c .before))
 
 part-spare-start : tie.Need-part-spare-start
-part-spare-start c = omega (arith, small (getD (c .before .before .before .before .before .before .args .element .now) 0 0) (c .before .before .is-kind .ensures) (c .before .if2 .left))
+part-spare-start c = omega (arith, low (c .before))
 
 part-spare-end : tie.Need-part-spare-end
 part-spare-end c = search needs
@@ -84,47 +126,35 @@ has-stray-requires : tie.Need-has-stray-requires
 has-stray-requires c κs = search needs
 
 returns-3 : tie.Need-returns-3
-returns-3 c =
-    let a = c .before .before .before .before .before .before .before .before .before .args in
-    let r = a .element .now in
-    let wide = c .before .before .before .before .before .before .before .if1 .left in
-    finding-vertex (a .limit) r wide (is-kind r (c .before .before .before .before .before .is-kind .ensures) (c .before .before .before .before .if2 .left))
-    (of-used r wide (some (strayVertex (a .limit))) (c .before .has-stray .ensures) (c .if3 .taken))
+returns-3 c = let k = kinded (c .before) in finding-vertex (limit-of k) (record-of k) (wide k) (kind k) (strays (c .before) (c .if3 .taken))
 
 has-nonzero-requires : tie.Need-has-nonzero-requires
 has-nonzero-requires c κs = search needs
 
 returns-4 : tie.Need-returns-4
 returns-4 c =
-    let a = c .before .before .before .before .before .before .before .before .before .before .before .args in
-    let r = a .element .now in
-    let wide = c .before .before .before .before .before .before .before .before .before .if1 .left in
-    finding-spare (a .limit) r wide (is-kind r (c .before .before .before .before .before .before .before .is-kind .ensures) (c .before .before .before .before .before .before .if2 .left))
-    (of-used r wide (some (strayVertex (a .limit))) (c .before .before .before .has-stray .ensures) (c .before .before .if3 .left))
-    (of-spare r wide (some notZero) (c .before .has-nonzero .ensures) (c .if4 .taken))
+    let n = numbered (c .before) in
+    let k = kinded n in
+    finding-spare (limit-of k) (record-of k) (wide k) (kind k) (strays n (c .before .before .if3 .left)) (spares (c .before) (c .if4 .taken))
 
 is-distinct-requires : tie.Need-is-distinct-requires
 is-distinct-requires c κs = search needs
 
 returns-5 : tie.Need-returns-5
 returns-5 c =
-    let a = c .before .before .before .before .before .before .before .before .before .before .before .before .before .args in
-    let r = a .element .now in
-    let wide = c .before .before .before .before .before .before .before .before .before .before .before .if1 .left in
-    finding-repeat (a .limit) r wide (is-kind r (c .before .before .before .before .before .before .before .before .before .is-kind .ensures) (c .before .before .before .before .before .before .before .before .if2 .left))
-    (of-used r wide (some (strayVertex (a .limit))) (c .before .before .before .before .before .has-stray .ensures) (c .before .before .before .before .if3 .left))
-    (of-spare r wide (some notZero) (c .before .before .before .has-nonzero .ensures) (c .before .before .if4 .left))
-    (of-used r wide distinct (c .before .is-distinct .ensures) (not-true _ (c .if5 .taken)))
+    let s = spared (c .before) in
+    let n = numbered s in
+    let k = kinded n in
+    finding-repeat (limit-of k) (record-of k) (wide k) (kind k) (strays n (s .before .if3 .left)) (spares s (c .before .before .if4 .left))
+    (corners (c .before) (not-true _ (c .if5 .taken)))
 
 returns-6 : tie.Need-returns-6
 returns-6 c =
-    let a = c .before .before .before .before .before .before .before .before .before .before .before .before .before .args in
-    let r = a .element .now in
-    let wide = c .before .before .before .before .before .before .before .before .before .before .before .if1 .left in
-    finding-clean (a .limit) r wide (is-kind r (c .before .before .before .before .before .before .before .before .before .is-kind .ensures) (c .before .before .before .before .before .before .before .before .if2 .left))
-    (of-used r wide (some (strayVertex (a .limit))) (c .before .before .before .before .before .has-stray .ensures) (c .before .before .before .before .if3 .left))
-    (of-spare r wide (some notZero) (c .before .before .before .has-nonzero .ensures) (c .before .before .if4 .left))
-    (of-used r wide distinct (c .before .is-distinct .ensures) (not-false _ (c .if5 .left)))
+    let s = spared (c .before) in
+    let n = numbered s in
+    let k = kinded n in
+    finding-clean (limit-of k) (record-of k) (wide k) (kind k) (strays n (s .before .if3 .left)) (spares s (c .before .before .if4 .left))
+    (corners (c .before) (not-false _ (c .if5 .left)))
 
 pub judge-record-spec : {M : Type 1} → statement M
 judge-record-spec =

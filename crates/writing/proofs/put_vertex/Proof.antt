@@ -16,9 +16,10 @@ same-length c = search needs
 
 returns : tie.Need-returns
 returns c =
-    let s = c .before .before .before .before .before .before in
+    let at-if1 = c .before .before .before .before in
+    let s = at-if1 .before .before in
     let line = rw (toZ-ofZ (s .fits .x), toZ-ofZ (s .fits .y), toZ-ofZ (s .fits .z)) at (c .before .before .vertex-line .ensures) in
-    put-done line (omega (arith, s .pre, c .before .before .before .before .if1 .taken))
+    put-done line (omega (arith, s .pre, at-if1 .if1 .taken))
 
 slice-aggregate-vertex-line : tie.Need-slice-aggregate-vertex-line
 slice-aggregate-vertex-line c = search needs
@@ -46,8 +47,9 @@ same-length-2 c = search needs
 
 returns-2 : tie.Need-returns-2
 returns-2 c =
-    let s = c .before .before .before .before .before .before .before .before .before .before in
-    let line = rw (toZ-ofZ (s .fits .x), toZ-ofZ (s .fits .y), toZ-ofZ (s .fits .z)) at (c .before .before .before .before .before .before .vertex-line2 .ensures) in
+    let at-vertex-line2 = c .before .before .before .before .before .before in
+    let s = at-vertex-line2 .before .before .before .before in
+    let line = rw (toZ-ofZ (s .fits .x), toZ-ofZ (s .fits .y), toZ-ofZ (s .fits .z)) at (at-vertex-line2 .vertex-line2 .ensures) in
     copied-done refl line (s .pre) (c .before .before .store .ensures)
 
 pub put-vertex-spec : {M : Type 1} → statement M

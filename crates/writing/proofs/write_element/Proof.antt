@@ -29,16 +29,19 @@ put-element-requires c κs = sym (c .before .before .before .judge-record .ensur
 
 returns : tie.Need-returns
 returns c =
-    let s = c .before .before .before .before .before .before .before in
-    refused-done (now (s .args .buffer)) _ (faulty (s .args .t1) _ _ (sym (c .before .before .before .before .judge-record .ensures) ∙ c .before .before .fault .given .1)) (c .refused .ensures)
+    let at-judge-record = c .before .before .before .before in
+    let s = at-judge-record .before .before .before in
+    refused-done (now (s .args .buffer)) _ (faulty (s .args .t1) _ _ (sym (at-judge-record .judge-record .ensures) ∙ c .before .before .fault .given .1)) (c .refused .ensures)
 
 same-length : tie.Need-same-length
 same-length c = search needs
 
 returns-2 : tie.Need-returns-2
 returns-2 c =
-    let s = c .before .before .before .before .before .before .before .before .before in
-    let clean : recordFinding vertexLimit (s .args .t1) ≡ Clean = sym (c .before .before .before .before .before .before .judge-record .ensures) ∙ c .before .before .before .before .enum-told .given .1 in
+    let at-enum-told = c .before .before .before .before in
+    let at-judge-record = at-enum-told .before .before in
+    let s = at-judge-record .before .before .before in
+    let clean : recordFinding vertexLimit (s .args .t1) ≡ Clean = sym (at-judge-record .judge-record .ensures) ∙ at-enum-told .enum-told .given .1 in
     same-done (faultless (s .args .t1) _ clean) (c .before .before .put-element .ensures)
 
 pub write-element-spec : {M : Type 1} → statement M

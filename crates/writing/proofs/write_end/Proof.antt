@@ -35,13 +35,19 @@ end-line-requires c κs = search needs
 
 array-share-prefix-line : tie.Need-array-share-prefix-line
 array-share-prefix-line c =
-    let a = c .before .before .before .before .before .before .args in
-    own-short (c .before .end-line .ensures) (c .before .end-line .kept .0) (omega (arith, end-line-short (a .vertices) (a .elements) (c .before .before .before .before .if1 .left) (c .before .before .before .if2 .left)))
+    let at-if2 = c .before .before .before in
+    let at-if1 = at-if2 .before in
+    let start = at-if1 .before .before in
+    let a = start .args in
+    own-short (c .before .end-line .ensures) (c .before .end-line .kept .0) (omega (arith, end-line-short (a .vertices) (a .elements) (at-if1 .if1 .left) (at-if2 .if2 .left)))
 
 slice-aggregate-store : tie.Need-slice-aggregate-store
 slice-aggregate-store c =
-    let a = c .before .before .before .before .before .before .before .args in
-    own-count (c .before .before .end-line .ensures) (c .before .before .end-line .kept .0) (omega (arith, end-line-short (a .vertices) (a .elements) (c .before .before .before .before .before .if1 .left) (c .before .before .before .before .if2 .left)))
+    let at-if2 = c .before .before .before .before in
+    let at-if1 = at-if2 .before in
+    let start = at-if1 .before .before in
+    let a = start .args in
+    own-count (c .before .before .end-line .ensures) (c .before .before .end-line .kept .0) (omega (arith, end-line-short (a .vertices) (a .elements) (at-if1 .if1 .left) (at-if2 .if2 .left)))
 
 store-requires : tie.Need-store-requires
 store-requires c κs = search needs
@@ -51,10 +57,14 @@ same-length c = search needs
 
 returns-3 : tie.Need-returns-3
 returns-3 c =
-    let a = c .before .before .before .before .before .before .before .before .before .before .before .args in
-    let v = c .before .before .before .before .before .before .before .before .before .if1 .left in
-    let e = c .before .before .before .before .before .before .before .before .if2 .left in
-    copied-done (few-of-both (a .vertices) (a .elements) _ v e) (c .before .before .before .before .before .before .end-line .ensures) (omega (arith, end-line-short (a .vertices) (a .elements) v e)) (c .before .before .store .ensures)
+    let at-end-line = c .before .before .before .before .before .before in
+    let at-if2 = at-end-line .before .before in
+    let at-if1 = at-if2 .before in
+    let start = at-if1 .before .before in
+    let a = start .args in
+    let v = at-if1 .if1 .left in
+    let e = at-if2 .if2 .left in
+    copied-done (few-of-both (a .vertices) (a .elements) _ v e) (at-end-line .end-line .ensures) (omega (arith, end-line-short (a .vertices) (a .elements) v e)) (c .before .before .store .ensures)
 
 pub write-end-spec : {M : Type 1} → statement M
 write-end-spec =

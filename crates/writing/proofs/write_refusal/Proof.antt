@@ -28,7 +28,10 @@ same-length c = search needs
 
 returns : tie.Need-returns
 unfolding writeRefusalVerdict
-returns c = copied-done refl (c .before .before .before .before .before .before .refusal-line .ensures) (refusal-line-short (c .before .before .before .before .before .before .before .before .before .args .refusal) (search needs) (search needs)) (c .before .before .store .ensures)
+returns c =
+    let at-refusal-line = c .before .before .before .before .before .before in
+    let start = at-refusal-line .before .before .before in
+    copied-done refl (at-refusal-line .refusal-line .ensures) (refusal-line-short (start .args .refusal) (search needs) (search needs)) (c .before .before .store .ensures)
 
 pub write-refusal-spec : {M : Type 1} → statement M
 write-refusal-spec =

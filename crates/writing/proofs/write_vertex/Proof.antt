@@ -33,12 +33,14 @@ same-length c = search needs
 returns : tie.Need-returns
 unfolding pointInRange
 returns c =
-    let s = c .before .before .before .before .before .before .before in
+    let at-if1 = c .before .before .before .before in
+    let at-point-in-range = at-if1 .before in
+    let s = at-point-in-range .before .before in
     let x = toZ-ofZ (s .fits .x) in
     let y = toZ-ofZ (s .fits .y) in
     let z = toZ-ofZ (s .fits .z) in
     let inside : (inRange (s .args .x) && (inRange (s .args .y) && inRange (s .args .z))) ≡ true =
-    sym (rw (x, y, z) at (c .before .before .before .before .before .point-in-range .ensures)) ∙ c .before .before .before .before .if1 .taken in
+    sym (rw (x, y, z) at (at-point-in-range .point-in-range .ensures)) ∙ at-if1 .if1 .taken in
     same-done (within (s .args .x) (s .args .y) (s .args .z) _ inside) (rw (x, y, z) at (c .before .before .put-vertex .ensures))
 
 refused-requires : tie.Need-refused-requires

@@ -1,7 +1,7 @@
 -- `brine::told::of_read` tells what reading answers. Assumes nothing.
 use mathlib.Core.Path.{refl, ap}
 use Rattle.faults.specs.Refusals.{answerOf}
-use Rattle.text.specs.Records.{verdictOf}
+use Rattle.text.specs.Reading.{verdictOf}
 use Rattle.brine.proofs.FrontLaws.{fewer}
 use borrow.Author.Needs.{needs}
 use Rattle.brine.proofs.told.of_read.Statement.{statement}

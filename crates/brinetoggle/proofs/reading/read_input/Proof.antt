@@ -30,14 +30,16 @@ enum-known-n c = search needs
 
 loop-less : tie.Need-loop-less Inv-loop μ-loop
 loop-less c =
+    let at-loop = c .before .before .before .before .before .before .before .before in
     let h = turn c in
-    let loop = c .before .before .before .before .before .before .before .before .loop in
+    let loop = at-loop .loop in
     omega (arith, h .0, h .1, loop .inv .0)
 
 loop-again : tie.Need-loop-again Inv-loop μ-loop
 loop-again c =
+    let at-loop = c .before .before .before .before .before .before .before .before in
     let h = turn c in
-    let loop = c .before .before .before .before .before .before .before .before .loop in
+    let loop = at-loop .loop in
     (search needs, omega (arith, h .1, loop .inv .0))
 
 enum-known-input : tie.Need-enum-known-input Inv-loop μ-loop
@@ -48,8 +50,10 @@ same-length c = search needs
 
 returns : tie.Need-returns Inv-loop μ-loop
 returns c =
-    let loop = c .before .before .before .before .before .before .before .before .loop in
-    rw (← loop .inv .0) (rw (c .before .input .given .1) at (c .before .before .before .before .before .read-more .ensures))
+    let at-read-more = c .before .before .before .before .before in
+    let at-loop = at-read-more .before .before .before in
+    let loop = at-loop .loop in
+    rw (← loop .inv .0) (rw (c .before .input .given .1) at (at-read-more .read-more .ensures))
 
 same-length-2 : tie.Need-same-length-2 Inv-loop μ-loop
 same-length-2 c = search needs

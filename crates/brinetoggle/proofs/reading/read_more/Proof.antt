@@ -30,8 +30,9 @@ same-length c = search needs
 
 returns : tie.Need-returns
 returns c =
-    let s = c .before .before .before .before .before .before in
-    let read = c .before .before .before .read in
+    let at-read = c .before .before .before in
+    let s = at-read .before .before .before in
+    let read = at-read .read in
     rw (c .turn-of .ensures, toZ-ofZ (record { sfits = read .ok }))
     (turn-within (s .args .at) (s .args .room .now) (s .pre) (read .result) (read .ensures))
 

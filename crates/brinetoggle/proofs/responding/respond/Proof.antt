@@ -24,20 +24,26 @@ same-length c = search needs
 
 returns : tie.Need-returns
 returns c =
-    let a = c .before .before .before .before .before .before .before .before .before .args in
-    let convert = c .before .before .before .before .before .convert in
-    mesh-responded (a .input .now) (a .output .now) _ (convert .result) (c .before .before .before .before .before .before .before .before .before .pre) (search needs) (convert .ensures) _ (c .before .n .given .1)
+    let at-convert = c .before .before .before .before .before in
+    let start = at-convert .before .before .before .before in
+    let a = start .args in
+    let convert = at-convert .convert in
+    mesh-responded (a .input .now) (a .output .now) _ (convert .result) (start .pre) (search needs) (convert .ensures) _ (c .before .n .given .1)
 
 same-length-2 : tie.Need-same-length-2
 same-length-2 c = search needs
 
 returns-2 : tie.Need-returns-2
 returns-2 c =
-    let a = c .before .before .before .before .before .before .before .before .before .before .before .before .before .before .args in
-    let convert = c .before .before .before .before .before .before .before .before .before .before .convert in
-    let line = c .before .before .before .write-refusal in
+    let at-write-refusal = c .before .before .before in
+    let at-refusal = at-write-refusal .before .before .before in
+    let at-convert = at-refusal .before .before .before .before in
+    let start = at-convert .before .before .before .before in
+    let a = start .args in
+    let convert = at-convert .convert in
+    let line = at-write-refusal .write-refusal in
     rw (c .length-in .ensures)
-    (refusal-responded (a .input .now) (a .output .now) _ (convert .result) (c .before .before .before .before .before .before .before .before .before .before .before .before .before .before .pre) (search needs) (convert .ensures) _ (line .result) _ (search needs) (c .before .before .before .before .before .before .refusal .given .1) (line .ensures))
+    (refusal-responded (a .input .now) (a .output .now) _ (convert .result) (start .pre) (search needs) (convert .ensures) _ (line .result) _ (search needs) (at-refusal .refusal .given .1) (line .ensures))
 
 pub respond-spec : {M : Type 1} → statement M
 respond-spec =

@@ -19,9 +19,10 @@ same-length c = search needs
 
 returns : tie.Need-returns
 returns c =
-    let s = c .before .before .before .before .before .before in
+    let at-write-end = c .before .before .before in
+    let s = at-write-end .before .before .before in
     let a = s .args in
-    let w = c .before .before .before .write-end in
+    let w = at-write-end .write-end in
     let short = end-line-short (a .vertices) (a .tetrahedra) (s .pre .0) (s .pre .1 .0) in
     put-written longestEnd (end-written (w .result) (now (a .out)) _ (a .vertices) (a .tetrahedra) (s .pre .0) (s .pre .1 .0) (w .ensures) (omega (arith, s .pre .1 .1))) short
     (c .length-in .ensures)

@@ -43,11 +43,13 @@ same-length c = search needs
 
 returns : tie.Need-returns
 returns c =
-    let s = c .before .before .before .before .before .before .before .before .before .before .before .before .before .before in
+    let at-put-tetrahedra = c .before .before .before .before .before .before in
+    let at-put-vertices = at-put-tetrahedra .before .before .before .before in
+    let s = at-put-vertices .before .before .before .before in
     let a = s .args in
     mesh-put (now (a .vertices)) (a .vertex-count) (now (a .tetrahedra)) (a .count) (s .pre .0 .few) (s .pre .1 .0 .few) (now (a .out)) (s .pre .1 .1)
-    (c .before .before .before .before .before .before .before .before .before .before .put-vertices .ensures)
-    (c .before .before .before .before .before .before .put-tetrahedra .ensures) (c .before .before .put-end .ensures)
+    (at-put-vertices .put-vertices .ensures)
+    (at-put-tetrahedra .put-tetrahedra .ensures) (c .before .before .put-end .ensures)
 
 pub put-mesh-spec : {M : Type 1} → statement M
 put-mesh-spec =

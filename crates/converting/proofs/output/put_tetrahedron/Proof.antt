@@ -1,5 +1,4 @@
 -- `converting::output::put_tetrahedron` puts the line of a tetrahedron. Assumes nothing.
-use mathlib.Core.Path.{refl}
 use borrow.Author.Needs.{needs}
 use denote.Ref.{now}
 use Rattle.converting.specs.ConversionLoops.{tetrahedronRecord}
@@ -43,6 +42,9 @@ mul-d c = search needs
 shared-slice-read-d : tie.Need-shared-slice-read-d
 shared-slice-read-d c = search needs
 
+tetrahedron-record-requires : tie.Need-tetrahedron-record-requires
+tetrahedron-record-requires c κs = search needs
+
 write-element-requires : tie.Need-write-element-requires
 write-element-requires c κs = search needs
 
@@ -55,9 +57,11 @@ same-length c = search needs
 returns : tie.Need-returns
 unfolding tetrahedronRecord
 returns c =
-    let s = c .before .before .before .before .before .before .before .before .before .before .before in
-    tetrahedron-put (now (s .args .tetrahedra)) (s .args .k) (s .pre .0) (now (s .args .out)) refl (s .pre .1)
-    (c .before .before .before .write-element .ensures) (c .length-in .ensures)
+    let at-write-element = c .before .before .before in
+    let at-record = at-write-element .before .before in
+    let start = at-record .before .before .before .before .before .before .before in
+    tetrahedron-put (now (start .args .tetrahedra)) (start .args .k) (start .pre .0) (now (start .args .out)) (at-record .tetrahedron-record .ensures) (start .pre .1)
+    (at-write-element .write-element .ensures) (c .length-in .ensures)
 
 pub put-tetrahedron-spec : {M : Type 1} → statement M
 put-tetrahedron-spec =
@@ -75,6 +79,7 @@ put-tetrahedron-spec =
     add-d
     mul-d
     shared-slice-read-d
+    tetrahedron-record-requires
     write-element-requires
     length-in-requires
     same-length

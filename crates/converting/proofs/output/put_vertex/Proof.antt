@@ -44,12 +44,16 @@ same-length c = search needs
 
 returns : tie.Need-returns
 returns c =
-    let s = c .before .before .before .before .before .before .before .before .before in
-    let x = c .before .before .before .before .before .before .before .x .given in
-    let y = c .before .before .before .before .before .before .y .given in
-    let z = c .before .before .before .before .before .z .given in
+    let at-write-vertex = c .before .before .before in
+    let at-z = at-write-vertex .before .before in
+    let at-y = at-z .before in
+    let at-x = at-y .before in
+    let s = at-x .before .before in
+    let x = at-x .x .given in
+    let y = at-y .y .given in
+    let z = at-z .z .given in
     vertex-put (now (s .args .vertices)) (s .args .k) (s .pre .0) (now (s .args .out)) (toZ-ofZ (sfits-of x)) (toZ-ofZ (sfits-of y)) (toZ-ofZ (sfits-of z))
-    (s .pre .1) (c .before .before .before .write-vertex .ensures) (c .length-in .ensures)
+    (s .pre .1) (at-write-vertex .write-vertex .ensures) (c .length-in .ensures)
 
 pub put-vertex-spec : {M : Type 1} → statement M
 put-vertex-spec =

@@ -41,7 +41,10 @@ add-at c =
     omega arith
 
 add-k : tie.Need-add-k Inv-loop μ-loop
-add-k c = let h = c .before .before .before .before .before .before .before .pre .0 .few in omega (arith, c .before .before .before .before .loop-test .taken)
+add-k c =
+    let at-loop-test = c .before .before .before .before in
+    let start = at-loop-test .before .before .before in
+    let h = start .pre .0 .few in omega (arith, at-loop-test .loop-test .taken)
 
 loop-less : tie.Need-loop-less Inv-loop μ-loop
 loop-less c = omega (arith, c .before .before .before .before .loop-test .taken)

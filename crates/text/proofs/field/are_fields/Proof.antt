@@ -6,8 +6,8 @@ use borrow.Author.Needs.{needs}
 use lib.ListN.{length}
 use Rattle.limits.specs.Limits.{space}
 use Rattle.laws.specs.Pieces.{split}
-use Rattle.text.specs.Line.{areFields}
-use Rattle.text.proofs.FieldLaws.{none-wanted, fields-empty, fields-last, fields-more}
+use Rattle.format.specs.Line.{areFields}
+use Rattle.format.proofs.FieldLaws.{none-wanted, fields-empty, fields-last, fields-more}
 use Rattle.text.proofs.field.are_fields.Statement.{statement}
 use Rattle.text.proofs.field.are_fields.Tie as tie
 

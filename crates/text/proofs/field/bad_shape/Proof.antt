@@ -3,7 +3,7 @@ use native.Mathlib.Omega.{arith}
 use Prim.Native.Nat.{_≤_}
 use lib.ListN.{length, List·getD-eq-default}
 use borrow.Author.Tests.{eq-eqb, ne-eqb}
-use Rattle.text.specs.Line.{fieldsOf, badShape}
+use Rattle.format.specs.Line.{fieldsOf, badShape}
 use borrow.Author.Needs.{needs}
 use Rattle.text.proofs.field.bad_shape.Statement.{statement}
 use Rattle.text.proofs.field.bad_shape.Tie as tie

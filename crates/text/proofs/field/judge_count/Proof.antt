@@ -13,10 +13,10 @@ enum-told-2 : tie.Need-enum-told-2
 enum-told-2 c = search needs
 
 returns : tie.Need-returns
-returns c = rw (← c .before .before .number .ensures .is, c .enum-told .given .1)
+returns c = rw (← c .before .before .number .ensures, c .enum-told .given .1)
 
 returns-2 : tie.Need-returns-2
-returns-2 c = rw (← c .before .before .number .ensures .is, c .enum-told2 .given .1)
+returns-2 c = rw (← c .before .before .number .ensures, c .enum-told2 .given .1)
 
 pub judge-count-spec : {M : Type 1} → statement M
 judge-count-spec = tie.close (tie.spec number-requires enum-told enum-told-2 returns returns-2)

@@ -1,5 +1,5 @@
 -- `text::field::judge_field` judges a field by the line's role. Assumes nothing.
-use Rattle.text.specs.Line.{fieldVerdict}
+use Rattle.format.specs.Line.{fieldVerdict}
 use borrow.Author.Needs.{needs}
 use Rattle.text.proofs.field.judge_field.Statement.{statement}
 use Rattle.text.proofs.field.judge_field.Tie as tie

@@ -7,8 +7,8 @@ use borrow.Author.Needs.{needs}
 use lib.ListN.{length, length-drop}
 use Rattle.limits.specs.Limits.{space}
 use Rattle.laws.specs.Pieces.{split}
-use Rattle.text.specs.Line.{fieldsVerdict}
-use Rattle.text.proofs.FieldLaws.{verdict-last, verdict-more, verdict-failed}
+use Rattle.format.specs.Line.{fieldsVerdict}
+use Rattle.format.proofs.FieldLaws.{verdict-last, verdict-more, verdict-failed}
 use Rattle.text.proofs.field.judge_fields.Statement.{statement}
 use Rattle.text.proofs.field.judge_fields.Tie as tie
 

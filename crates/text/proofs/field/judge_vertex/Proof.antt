@@ -14,7 +14,7 @@ returns : tie.Need-returns
 returns c =
     let number = c .before .before .before .before .number in
     let n = c .before .before .n in
-    rw (← number .ensures .is, n .given .1, eq-eqb _ _ (c .if1 .taken))
+    rw (← number .ensures, n .given .1, eq-eqb _ _ (c .if1 .taken))
 
 cast-if2 : tie.Need-cast-if2
 cast-if2 c = search needs
@@ -23,7 +23,7 @@ returns-2 : tie.Need-returns-2
 returns-2 c =
     let number = c .before .before .before .before .before .number in
     let n = c .before .before .before .n in
-    rw (← number .ensures .is, n .given .1, ne-eqb _ _ (c .before .if1 .left), lt-ltb _ _ (c .if2 .taken))
+    rw (← number .ensures, n .given .1, ne-eqb _ _ (c .before .if1 .left), lt-ltb _ _ (c .if2 .taken))
 
 enum-told : tie.Need-enum-told
 enum-told c = search needs
@@ -32,10 +32,10 @@ returns-3 : tie.Need-returns-3
 returns-3 c =
     let number = c .before .before .before .before .before .number in
     let n = c .before .before .before .n in
-    rw (← number .ensures .is, n .given .1, ne-eqb _ _ (c .before .if1 .left), le-ltb _ _ (c .if2 .left))
+    rw (← number .ensures, n .given .1, ne-eqb _ _ (c .before .if1 .left), le-ltb _ _ (c .if2 .left))
 
 returns-4 : tie.Need-returns-4
-returns-4 c = rw (← c .before .before .number .ensures .is, c .enum-told .given .1)
+returns-4 c = rw (← c .before .before .number .ensures, c .enum-told .given .1)
 
 pub judge-vertex-spec : {M : Type 1} → statement M
 judge-vertex-spec =

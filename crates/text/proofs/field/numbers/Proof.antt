@@ -9,9 +9,9 @@ use lib.ListN.{length, length-set}
 use lib.Seq.{sets}
 use Rattle.limits.specs.Limits.{space}
 use Rattle.laws.specs.Pieces.{split}
-use Rattle.text.specs.Number.{valueOf}
-use Rattle.text.specs.Line.{firstOf, numbersOf}
-use Rattle.text.proofs.FieldLaws.{length-first, first-none, first-more, sets-whole}
+use Rattle.format.specs.Number.{valueOf}
+use Rattle.format.specs.Line.{firstOf, numbersOf}
+use Rattle.format.proofs.FieldLaws.{length-first, first-none, first-more, sets-whole}
 use Rattle.text.proofs.field.numbers.Statement.{statement}
 use Rattle.text.proofs.field.numbers.Tie as tie
 

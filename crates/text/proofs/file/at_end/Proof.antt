@@ -1,7 +1,7 @@
 -- `text::file::at_end` says what the state after the last line says. Assumes nothing.
 use mathlib.Core.Path.{_∙_}
-use Rattle.text.specs.File.{atEnd}
-use Rattle.text.specs.Records.{verdictOf}
+use Rattle.format.specs.File.{atEnd}
+use Rattle.text.specs.Reading.{verdictOf}
 use borrow.Author.Needs.{needs}
 use Rattle.text.proofs.file.at_end.Statement.{statement}
 use Rattle.text.proofs.file.at_end.Tie as tie

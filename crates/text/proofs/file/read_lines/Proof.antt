@@ -7,7 +7,7 @@ use denote.Ref.{now}
 use lib.ListN.{length, length-drop}
 use Rattle.faults.specs.Refusals.{refuse}
 use Rattle.faults.specs.declared.Fault.the-variants as fault
-use Rattle.text.specs.File.{start, fileVerdict}
+use Rattle.format.specs.File.{start, fileVerdict}
 use Rattle.text.proofs.KeptLaws.{Reading, refused-read, reading-start, reading-ready, reading-more, reading-refused, reading-end}
 use Rattle.text.proofs.file.read_lines.Statement.{statement}
 use Rattle.text.proofs.file.read_lines.Tie as tie

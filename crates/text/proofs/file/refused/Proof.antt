@@ -1,6 +1,6 @@
 -- `text::file::refused` is a refusal. Assumes nothing.
 use mathlib.Core.Path.{refl}
-use Rattle.text.specs.Records.{verdictOf}
+use Rattle.text.specs.Reading.{verdictOf}
 use Rattle.text.proofs.file.refused.Statement.{statement}
 use Rattle.text.proofs.file.refused.Tie as tie
 

@@ -1,5 +1,5 @@
 -- `text::line::after` gives the state after a line. Assumes nothing.
-use Rattle.text.specs.Line.{afterRole}
+use Rattle.format.specs.Line.{afterRole}
 use borrow.Author.Needs.{needs}
 use Rattle.text.proofs.line.after.Statement.{statement}
 use Rattle.text.proofs.line.after.Tie as tie

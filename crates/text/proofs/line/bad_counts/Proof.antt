@@ -1,5 +1,5 @@
 -- `text::line::bad_counts` tests the counts of EN. Assumes nothing.
-use Rattle.text.specs.Line.{badCounts}
+use Rattle.format.specs.Line.{badCounts}
 use borrow.Author.Needs.{needs}
 use Rattle.text.proofs.line.bad_counts.Statement.{statement}
 use Rattle.text.proofs.line.bad_counts.Tie as tie

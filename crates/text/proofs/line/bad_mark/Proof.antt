@@ -1,5 +1,5 @@
 -- `text::line::bad_mark` tests a mark. Assumes nothing.
-use Rattle.text.specs.Line.{badMark}
+use Rattle.format.specs.Line.{badMark}
 use borrow.Author.Needs.{needs}
 use Rattle.text.proofs.line.bad_mark.Statement.{statement}
 use Rattle.text.proofs.line.bad_mark.Tie as tie

@@ -1,6 +1,6 @@
 -- `text::line::counts_differ` compares two numbers with the two counts. Assumes nothing.
 use borrow.Author.Tests.{eq-eqb, ne-eqb}
-use Rattle.text.specs.Line.{badCounts}
+use Rattle.format.specs.Line.{badCounts}
 use borrow.Author.Needs.{needs}
 use Rattle.text.proofs.line.counts_differ.Statement.{statement}
 use Rattle.text.proofs.line.counts_differ.Tie as tie

@@ -1,5 +1,5 @@
 -- `text::line::no_room` tests the lent table. Assumes nothing.
-use Rattle.text.specs.Line.{noRoom}
+use Rattle.format.specs.Line.{noRoom}
 use borrow.Author.Needs.{needs}
 use Rattle.text.proofs.line.no_room.Statement.{statement}
 use Rattle.text.proofs.line.no_room.Tie as tie

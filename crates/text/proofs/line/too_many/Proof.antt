@@ -1,5 +1,5 @@
 -- `text::line::too_many` tests a limit. Assumes nothing.
-use Rattle.text.specs.Line.{tooMany}
+use Rattle.format.specs.Line.{tooMany}
 use borrow.Author.Needs.{needs}
 use Rattle.text.proofs.line.too_many.Statement.{statement}
 use Rattle.text.proofs.line.too_many.Tie as tie

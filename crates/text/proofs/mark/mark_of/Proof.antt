@@ -1,7 +1,7 @@
 -- `text::mark::mark_of` names the mark with which a line starts. Assumes nothing.
 use mathlib.Core.Path.{sym}
-use Rattle.text.specs.Line.{markOf}
-use Rattle.text.proofs.MarkLaws.{mark-short}
+use Rattle.format.specs.Line.{markOf}
+use Rattle.format.proofs.MarkLaws.{mark-short}
 use borrow.Author.Needs.{needs}
 use Rattle.text.proofs.mark.mark_of.Statement.{statement}
 use Rattle.text.proofs.mark.mark_of.Tie as tie

@@ -3,7 +3,7 @@ use mathlib.Core.Path.{sym, ap, _∙_}
 use borrow.Author.Needs.{needs}
 use borrow.Author.Tests.{ne-eqb}
 use native.Mathlib.Omega.{arith}
-use Rattle.text.proofs.MarkLaws.{markAt, mark-by-number}
+use Rattle.format.proofs.MarkLaws.{markAt, mark-by-number}
 use Rattle.text.proofs.mark.mark_with.Statement.{statement}
 use Rattle.text.proofs.mark.mark_with.Tie as tie
 

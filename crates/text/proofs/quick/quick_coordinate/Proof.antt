@@ -1,7 +1,7 @@
 -- `text::quick::quick_coordinate` reads a coordinate and its end. Assumes nothing.
 use native.Mathlib.Omega.{arith}
 use mathlib.Core.Path.{refl, _∙_}
-use Rattle.text.proofs.NumberLaws.{plus, minus, minus-fits}
+use Rattle.numbers.proofs.NegativeLaws.{plus, minus, minus-fits}
 use Rattle.text.proofs.QuickNumbers.{coordinate-plus, coordinate-minus, start-behind, start-is}
 use borrow.Author.Needs.{needs}
 use Rattle.text.proofs.quick.quick_coordinate.Statement.{statement}

@@ -8,6 +8,20 @@ use borrow.Author.Needs.{needs}
 use Rattle.text.proofs.quick.quick_decimals.Statement.{statement}
 use Rattle.text.proofs.quick.quick_decimals.Tie as tie
 
+-- ---- the way through the tests
+
+abbrev start : tie.Else2 → tie.Start
+start c = c .before .before .before .before .before
+
+abbrev digits : tie.Else2 → tie.After-digit-run
+digits c = c .before .before .before
+
+-- at most three digits were read
+few : (c : tie.Else2) → digits c .digit-run .result .value < 1000
+few c = digits-under _ _ _ 3 _ _ (omega arith) (digits c .digit-run .ensures)
+
+-- ---- the needs
+
 digit-run-requires : tie.Need-digit-run-requires
 digit-run-requires c κs = search needs
 
@@ -24,19 +38,19 @@ sub-scaled : tie.Need-sub-scaled
 sub-scaled c = search needs
 
 scaled-requires : tie.Need-scaled-requires
-scaled-requires c κs = digits-under _ _ _ 3 _ _ (omega arith) (c .before .before .before .digit-run .ensures)
+scaled-requires c κs = few c
 
 add-within : tie.Need-add-within
 add-within c =
-    let d = c .before .before .before .before .digit-run in
-    let s = scaled-small _ (digits-under _ _ _ 3 _ _ (omega arith) (d .ensures)) (d .result .next - c .before .before .before .before .before .before .args .i) in
-    rw (c .scaled .ensures) (record { fits = omega (arith, s, c .before .before .before .before .before .before .pre .1) })
+    let k = c .before in
+    let s = scaled-small _ (few k) (digits k .digit-run .result .next - start k .args .i) in
+    rw (c .scaled .ensures) (record { fits = omega (arith, s, start k .pre .1) })
 
 add-within-2 : tie.Need-add-within-2
 add-within-2 c =
-    let t = c .before .before .before .before .before .before .args .t .now in
-    let h : c .before .before .before .before .digit-run .result .next < length t =
-    place-inside t _ (rw (← c .before .before .byte-at .ensures, c .before .if2 .left) (c .before .before .before .before .before .before .pre .0)) in
+    let k = c .before in
+    let t = start k .args .t .now in
+    let h : digits k .digit-run .result .next < length t = place-inside t _ (rw (← k .before .byte-at .ensures, k .if2 .left) (start k .pre .0)) in
     search needs
 
 within-requires : tie.Need-within-requires
@@ -44,10 +58,11 @@ within-requires c κs = search needs
 
 returns-3 : tie.Need-returns-3
 returns-3 c =
-    let a = c .before .before .before .before .before .before .before .args in
+    let k = c .before .before in
+    let a = start k .args in
     λ h.
-    decimals-at (a .t .now) (a .i) (a .stop) (a .whole) _ _ _ _ (c .before .before .before .before .before .digit-run .ensures) (omega (arith, c .before .before .before .before .if1 .left))
-    (sym (c .before .before .before .byte-at .ensures) ∙ c .before .before .if2 .left) (c .before .before .before .before .before .before .before .pre .0) (rw (c .before .scaled .ensures) at (c .within .ensures h))
+    decimals-at (a .t .now) (a .i) (a .stop) (a .whole) _ _ _ _ (digits k .digit-run .ensures) (omega (arith, k .before .before .if1 .left))
+    (sym (k .before .byte-at .ensures) ∙ k .if2 .left) (start k .pre .0) (rw (c .before .scaled .ensures) at (c .within .ensures h))
 
 pub quick-decimals-spec : {M : Type 1} → statement M
 quick-decimals-spec =

@@ -3,10 +3,18 @@ use Prim.Native.Nat.{_*_}
 use native.Mathlib.Omega.{arith}
 use mathlib.Core.Path.{sym, _∙_}
 use lib.ListN.{length-set}
-use Rattle.text.proofs.QuickLines.{wants-few, element-none, element-read}
+use Rattle.format.proofs.GoodLineLaws.{wants-few}
+use Rattle.text.proofs.QuickLines.{element-none, element-read}
 use borrow.Author.Needs.{needs}
 use Rattle.text.proofs.quick.quick_element.Statement.{statement}
 use Rattle.text.proofs.quick.quick_element.Tie as tie
+
+-- where the number of corners is known
+abbrev start : tie.After-wants → tie.Start
+start c = c .before .before .before .before
+
+abbrev wanted : tie.After-clear-arg → tie.After-wants
+wanted c = c .before .before .before .before
 
 tip-first-requires : tie.Need-tip-first-requires
 tip-first-requires c κs = search needs
@@ -34,13 +42,11 @@ add-quick-corners c = search needs
 
 quick-corners-requires : tie.Need-quick-corners-requires
 quick-corners-requires c κs =
-    let a = c .before .before .before .before .before .before .args in
-    let p = c .before .before .before .before .before .before .pre in
-    let w = wants-few (a .mark) in
+    let s = start (c .before .before) in
     let k = c .before .before .wants in
     record {
-      room = omega (arith, p .room, w, k .ensures);
-      long = length-set (a .elements .now) (9 * a .state .elements) (k .result) ∙ p .long;
+      room = omega (arith, s .pre .room, wants-few (s .args .mark), k .ensures);
+      long = length-set (s .args .elements .now) (9 * s .args .state .elements) (k .result) ∙ s .pre .long;
     }
 
 add-clear : tie.Need-add-clear
@@ -54,21 +60,20 @@ add-clear-3 c = search needs
 
 clear-requires : tie.Need-clear-requires
 clear-requires c κs =
-    let a = c .before .before .before .before .before .before .before .before .args in
-    let p = c .before .before .before .before .before .before .before .before .pre in
-    let w = wants-few (a .mark) in
-    let k = c .before .before .before .before .wants in
+    let s = start (wanted c) in
+    let k = wanted c .wants in
     let q = c .before .quick-corners .ensures in
     record {
-      room = omega (arith, p .room, w, k .ensures);
-      long = q .size ∙ length-set (a .elements .now) (9 * a .state .elements) (k .result) ∙ p .long;
+      room = omega (arith, s .pre .room, wants-few (s .args .mark), k .ensures);
+      long = q .size ∙ length-set (s .args .elements .now) (9 * s .args .state .elements) (k .result) ∙ s .pre .long;
     }
 
 returns-2 : tie.Need-returns-2
 returns-2 c =
-    let a = c .before .before .before .before .before .before .before .before .before .args in
-    element-read (a .mark) (a .state) _ _ _ _ _ (wants-few (a .mark)) (sym (c .before .before .before .before .before .before .before .tip-first .ensures) ∙ c .before .before .before .before .before .before .if1 .left)
-    (rw (c .before .before .before .before .before .wants .ensures) at (c .before .before .quick-corners .ensures)) (rw (c .before .before .before .before .before .wants .ensures) at (c .clear .ensures))
+    let w = wanted (c .before) in
+    let a = start w .args in
+    element-read (a .mark) (a .state) _ _ _ _ _ (wants-few (a .mark)) (sym (w .before .before .tip-first .ensures) ∙ w .before .if1 .left)
+    (rw (w .wants .ensures) at (c .before .before .quick-corners .ensures)) (rw (w .wants .ensures) at (c .clear .ensures))
 
 pub quick-element-spec : {M : Type 1} → statement M
 quick-element-spec =

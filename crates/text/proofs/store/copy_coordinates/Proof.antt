@@ -2,7 +2,7 @@
 use Prim.Native.Nat.{_-_}
 use native.Mathlib.Omega.{arith}
 use borrow.Author.Needs.{needs}
-use Rattle.text.proofs.NumberLaws.{back}
+use Rattle.numbers.proofs.NegativeLaws.{back}
 use Rattle.text.proofs.CopyLaws.{Copied, copied-none, copied-more, copied-all}
 use Rattle.text.proofs.store.copy_coordinates.Statement.{statement}
 use Rattle.text.proofs.store.copy_coordinates.Tie as tie

@@ -1,5 +1,5 @@
 -- `text::store::element_record` makes the record of an element line. Assumes nothing.
-use Rattle.text.specs.Records.{elementRecord}
+use Rattle.format.specs.Records.{elementRecord}
 use borrow.Author.Needs.{needs}
 use Rattle.text.proofs.store.element_record.Statement.{statement}
 use Rattle.text.proofs.store.element_record.Tie as tie

@@ -9,11 +9,11 @@ use lib.ListN.{length}
 use lib.Seq.{sets}
 use Rattle.limits.specs.Limits.{space, vertexWidth}
 use Rattle.laws.specs.Pieces.{split}
-use Rattle.text.specs.Number.{thousandthsOf}
-use Rattle.text.specs.Line.{firstOf}
-use Rattle.text.specs.Records.{vertexRecord}
-use Rattle.text.proofs.NumberLaws.{back}
-use Rattle.text.proofs.FieldLaws.{first-none, first-more}
+use Rattle.format.specs.Number.{thousandthsOf}
+use Rattle.format.specs.Line.{firstOf}
+use Rattle.format.specs.Records.{vertexRecord}
+use Rattle.numbers.proofs.NegativeLaws.{back}
+use Rattle.format.proofs.FieldLaws.{first-none, first-more}
 use Rattle.text.proofs.store.put_vertex.Statement.{statement}
 use Rattle.text.proofs.store.put_vertex.Tie as tie
 

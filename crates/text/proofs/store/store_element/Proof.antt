@@ -1,6 +1,6 @@
 -- `text::store::store_element` stores what a line adds to the element table. Assumes nothing.
-use Rattle.text.specs.Line.{fieldsOf}
-use Rattle.text.specs.Records.{elementRecords}
+use Rattle.format.specs.Line.{fieldsOf}
+use Rattle.format.specs.Records.{elementRecords}
 use borrow.Author.Needs.{needs}
 use Rattle.text.proofs.store.store_element.Statement.{statement}
 use Rattle.text.proofs.store.store_element.Tie as tie

@@ -1,6 +1,6 @@
 -- `text::store::store_vertex` stores what a line adds to the vertex table. Assumes nothing.
-use Rattle.text.specs.Line.{fieldsOf}
-use Rattle.text.specs.Records.{vertexRecords}
+use Rattle.format.specs.Line.{fieldsOf}
+use Rattle.format.specs.Records.{vertexRecords}
 use borrow.Author.Needs.{needs}
 use Rattle.text.proofs.store.store_vertex.Statement.{statement}
 use Rattle.text.proofs.store.store_vertex.Tie as tie

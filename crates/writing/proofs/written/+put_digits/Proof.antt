@@ -74,8 +74,11 @@ put-digits-returns-2 : (t : ℕ) → put-digits-lts.Need-returns-2 (
   push-reads.Learnt,
 ) (put-digits-at t) put-digits.Post
 put-digits-returns-2 t c =
-    let a = c .before .before .before .before .before .before .before .args in
-    rw (one-digit (a .f) (a .k) (c .before .before .before .before .before .if1 .left) (c .before .before .before .before .if2 .taken), ← decimal-one (a .k) (c .before .before .before .before .if2 .taken)) (c .before .before .put-below-ten .ensures)
+    let at-if2 = c .before .before .before .before in
+    let at-if1 = at-if2 .before in
+    let start = at-if1 .before .before in
+    let a = start .args in
+    rw (one-digit (a .f) (a .k) (at-if1 .if1 .left) (at-if2 .if2 .taken), ← decimal-one (a .k) (at-if2 .if2 .taken)) (c .before .before .put-below-ten .ensures)
 
 put-digits-sub-put-digits : (t : ℕ) → put-digits-lts.Need-sub-put-digits (
   put-below-ten-reads.Asked,
@@ -148,9 +151,14 @@ put-digits-returns-3 : (t : ℕ) → put-digits-lts.Need-returns-3 (
   push-reads.Learnt,
 ) (put-digits-at t) put-digits.Post
 put-digits-returns-3 t c =
-    let a = c .before .before .before .before .before .before .before .before .before .before .before .before .args in
-    rw (more-digits (a .f) (a .k) (c .before .before .before .before .before .before .before .before .before .before .if1 .left) (c .before .before .before .before .before .before .before .before .before .if2 .left), ← c .before .before .before .digit .ensures)
-    (put-two (c .before .before .before .before .before .before .before .put-digits .ensures) (c .before .before .push .ensures))
+    let at-digit = c .before .before .before in
+    let at-put-digits = at-digit .before .before .before .before in
+    let at-if2 = at-put-digits .before .before in
+    let at-if1 = at-if2 .before in
+    let start = at-if1 .before .before in
+    let a = start .args in
+    rw (more-digits (a .f) (a .k) (at-if1 .if1 .left) (at-if2 .if2 .left), ← at-digit .digit .ensures)
+    (put-two (at-put-digits .put-digits .ensures) (c .before .before .push .ensures))
 
 pub +put-digits-spec : {M : Type 1} → statement M
 +put-digits-spec = close μ-put-digits λ t. put-digits-lts.spec (

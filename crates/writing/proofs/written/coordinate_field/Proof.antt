@@ -16,8 +16,10 @@ same-length c = search needs
 
 returns : tie.Need-returns
 returns c =
-    let e = toZ-ofZ (c .before .before .before .before .before .before .before .before .before .fits .z) in
-    put-two (c .before .before .before .before .before .before .push .ensures) (rw e at (c .before .before .put-coordinate .ensures))
+    let at-push = c .before .before .before .before .before .before in
+    let start = at-push .before .before .before in
+    let e = toZ-ofZ (start .fits .z) in
+    put-two (at-push .push .ensures) (rw e at (c .before .before .put-coordinate .ensures))
 
 pub coordinate-field-spec : {M : Type 1} → statement M
 coordinate-field-spec =

@@ -37,7 +37,10 @@ cast-loop : tie.Need-cast-loop Inv-loop μ-loop
 cast-loop c = search needs
 
 add-p : tie.Need-add-p Inv-loop μ-loop
-add-p c = omega (arith, kind-of-clean (c .before .before .before .before .before .before .before .before .before .before .args .t2) (c .before .before .before .before .before .before .before .before .before .before .pre), c .before .before .before .before .before .before .before .kind-of .ensures, c .loop-test .taken)
+add-p c =
+    let at-kind-of = c .before .before .before .before .before .before .before in
+    let start = at-kind-of .before .before .before in
+    omega (arith, kind-of-clean (start .args .t2) (start .pre), at-kind-of .kind-of .ensures, c .loop-test .taken)
 
 slice-aggregate-corner : tie.Need-slice-aggregate-corner Inv-loop μ-loop
 slice-aggregate-corner c = search needs
@@ -52,31 +55,45 @@ number-field-requires : tie.Need-number-field-requires Inv-loop μ-loop
 number-field-requires c κs = search needs
 
 loop-less : tie.Need-loop-less Inv-loop μ-loop
-loop-less c = omega (arith, c .before .before .before .before .before .before .before .loop-test .taken)
+loop-less c =
+    let at-loop-test = c .before .before .before .before .before .before .before in
+    omega (arith, at-loop-test .loop-test .taken)
 
 loop-again : tie.Need-loop-again Inv-loop μ-loop
 loop-again c =
-    let s = c .before .before .before .before .before .before .before .before .before .before .before .before .before .before .before .before .before in
-    let l = c .before .before .before .before .before .before .before .before .loop in
-    let h : l .p < kindOf (s .args .t2) = omega (arith, c .before .before .before .before .before .before .before .loop-test .taken, c .before .before .before .before .before .before .before .before .before .before .before .before .before .before .kind-of .ensures) in (
+    let at-corner = c .before .before .before .before .before in
+    let at-loop-test = at-corner .before .before in
+    let at-loop = at-loop-test .before in
+    let at-kind-of = at-loop .before .before .before .before .before .before in
+    let s = at-kind-of .before .before .before in
+    let l = at-loop .loop in
+    let h : l .p < kindOf (s .args .t2) = omega (arith, at-loop-test .loop-test .taken, at-kind-of .kind-of .ensures) in (
       c .before .before .number-field .kept .0 ∙ l .inv .0,
-      omega (arith, c .before .before .before .before .before .before .before .loop-test .taken),
-      element-corner (s .args .t2) (s .pre) (l .p) _ h (c .before .before .before .before .before .corner .ensures) (l .inv .2) (c .before .before .number-field .ensures),
+      omega (arith, at-loop-test .loop-test .taken),
+      element-corner (s .args .t2) (s .pre) (l .p) _ h (at-corner .corner .ensures) (l .inv .2) (c .before .before .number-field .ensures),
     )
 
 push-requires : tie.Need-push-requires Inv-loop μ-loop
 push-requires c κs = search needs
 
 same-length : tie.Need-same-length Inv-loop μ-loop
-same-length c = c .before .before .push .kept .0 ∙ c .before .before .before .before .before .loop .inv .0 ∙ c .before .before .before .before .before .before .before .before .put-mark .kept .0
+same-length c =
+    let at-loop = c .before .before .before .before .before in
+    let at-put-mark = at-loop .before .before .before in
+    c .before .before .push .kept .0 ∙ at-loop .loop .inv .0 ∙ at-put-mark .put-mark .kept .0
 
 returns : tie.Need-returns Inv-loop μ-loop
 returns c =
-    let s = c .before .before .before .before .before .before .before .before .before .before .before .before .before .before in
-    let l = c .before .before .before .before .before .loop in
-    let h : kindOf (s .args .t2) ≤ l .p = omega (arith, c .before .before .before .before .loop-test .left, c .before .before .before .before .before .before .before .before .before .before .before .kind-of .ensures) in
-    let e : c .before .before .before .before .before .before .before .before .before .mark-of-kind .result ≡ markOfKind (kindOf (s .args .t2)) = c .before .before .before .before .before .before .before .before .before .mark-of-kind .ensures ∙ ap markOfKind (c .before .before .before .before .before .before .before .before .before .before .before .kind-of .ensures) in
-    element-closed (s .args .t2) (s .pre) (l .p) h (rw e at (c .before .before .before .before .before .before .before .before .put-mark .ensures)) (l .inv .2) (c .before .before .push .ensures)
+    let at-loop-test = c .before .before .before .before in
+    let at-loop = at-loop-test .before in
+    let at-put-mark = at-loop .before .before .before in
+    let at-mark-of-kind = at-put-mark .before in
+    let at-kind-of = at-mark-of-kind .before .before in
+    let s = at-kind-of .before .before .before in
+    let l = at-loop .loop in
+    let h : kindOf (s .args .t2) ≤ l .p = omega (arith, at-loop-test .loop-test .left, at-kind-of .kind-of .ensures) in
+    let e : at-mark-of-kind .mark-of-kind .result ≡ markOfKind (kindOf (s .args .t2)) = at-mark-of-kind .mark-of-kind .ensures ∙ ap markOfKind (at-kind-of .kind-of .ensures) in
+    element-closed (s .args .t2) (s .pre) (l .p) h (rw e at (at-put-mark .put-mark .ensures)) (l .inv .2) (c .before .before .push .ensures)
 
 pub element-line-spec : {M : Type 1} → statement M
 element-line-spec =

@@ -1,8 +1,8 @@
 -- `writing::written::end_line` puts the line EN. Assumes nothing.
 use mathlib.Core.List.{List, [], _∷_}
 use Prim.Native.Nat.{ℕ}
-use Rattle.text.specs.Line.{markBytes}
-use Rattle.text.specs.declared.terms.Mark.the-variants.{En}
+use Rattle.format.specs.Line.{markBytes}
+use Rattle.format.specs.declared.Mark.the-variants.{En}
 use Rattle.writing.specs.Written.{decimal, endLine}
 use Rattle.writing.proofs.PutLaws.{put-two}
 use Rattle.writing.proofs.WrittenLaws.{line-start, line-field}
@@ -28,11 +28,15 @@ same-length c = search needs
 returns : tie.Need-returns
 unfolding endLine
 returns c =
-    let a = c .before .before .before .before .before .before .before .before .before .before .before .before .before .before .before .before .before .args in
+    let at-number-field2 = c .before .before .before .before .before .before in
+    let at-number-field = at-number-field2 .before .before .before .before in
+    let at-put-mark = at-number-field .before .before .before .before in
+    let start = at-put-mark .before .before .before in
+    let a = start .args in
     let mark : List ℕ = markBytes En in
-    let begun = line-start mark (c .before .before .before .before .before .before .before .before .before .before .before .before .before .before .put-mark .ensures) in
-    let first = line-field mark [] (decimal (a .vertices)) begun (c .before .before .before .before .before .before .before .before .before .before .number-field .ensures) in
-    let second = line-field mark (decimal (a .vertices) ∷ []) (decimal (a .elements)) first (c .before .before .before .before .before .before .number-field2 .ensures) in
+    let begun = line-start mark (at-put-mark .put-mark .ensures) in
+    let first = line-field mark [] (decimal (a .vertices)) begun (at-number-field .number-field .ensures) in
+    let second = line-field mark (decimal (a .vertices) ∷ []) (decimal (a .elements)) first (at-number-field2 .number-field2 .ensures) in
     put-two second (c .before .before .push .ensures)
 
 pub end-line-spec : {M : Type 1} → statement M

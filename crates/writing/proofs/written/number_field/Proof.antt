@@ -14,7 +14,9 @@ same-length : tie.Need-same-length
 same-length c = search needs
 
 returns : tie.Need-returns
-returns c = put-two (c .before .before .before .before .before .before .push .ensures) (c .before .before .put-number .ensures)
+returns c =
+    let at-push = c .before .before .before .before .before .before in
+    put-two (at-push .push .ensures) (c .before .before .put-number .ensures)
 
 pub number-field-spec : {M : Type 1} → statement M
 number-field-spec =

@@ -26,7 +26,12 @@ same-length-2 : tie.Need-same-length-2
 same-length-2 c = search needs
 
 returns-2 : tie.Need-returns-2
-returns-2 c = put-last-digit (c .before .before .before .before .before .before .before .before .before .before .before .args .k) (c .before .before .before .before .before .before .before .before .before .if1 .left) (c .before .before .before .before .before .before .before .put-below-ten2 .ensures) (c .before .before .push .ensures) (c .before .before .before .digit .ensures)
+returns-2 c =
+    let at-digit = c .before .before .before in
+    let at-put-below-ten2 = at-digit .before .before .before .before in
+    let at-if1 = at-put-below-ten2 .before .before in
+    let start = at-if1 .before .before in
+    put-last-digit (start .args .k) (at-if1 .if1 .left) (at-put-below-ten2 .put-below-ten2 .ensures) (c .before .before .push .ensures) (at-digit .digit .ensures)
 
 pub put-below-hundred-spec : {M : Type 1} → statement M
 put-below-hundred-spec =

@@ -24,10 +24,14 @@ same-length c = search needs
 returns : tie.Need-returns
 unfolding coordinateText
 returns c =
-    let z = c .before .before .before .before .before .before .before .before .before .before .before .args .z in
-    let k = toZ-ofZ (c .before .before .before .before .before .before .before .before .before .before .before .fits .z) in
-    let e : c .before .before .before .before .before .before .before .before .before .magnitude .result ≡ natAbs z = c .before .before .before .before .before .before .before .before .before .magnitude .ensures ∙ ap natAbs k in
-    rw (minus-sign z (rw k at (c .before .before .before .before .before .before .before .before .if1 .taken)), ← e) (put-two (c .before .before .before .before .before .before .push .ensures) (c .before .before .put-millimetres .ensures))
+    let at-push = c .before .before .before .before .before .before in
+    let at-if1 = at-push .before .before in
+    let at-magnitude = at-if1 .before in
+    let start = at-magnitude .before .before in
+    let z = start .args .z in
+    let k = toZ-ofZ (start .fits .z) in
+    let e : at-magnitude .magnitude .result ≡ natAbs z = at-magnitude .magnitude .ensures ∙ ap natAbs k in
+    rw (minus-sign z (rw k at (at-if1 .if1 .taken)), ← e) (put-two (at-push .push .ensures) (c .before .before .put-millimetres .ensures))
 
 put-millimetres-requires-2 : tie.Need-put-millimetres-requires-2
 put-millimetres-requires-2 c κs = search needs
@@ -38,10 +42,13 @@ same-length-2 c = search needs
 returns-2 : tie.Need-returns-2
 unfolding coordinateText
 returns-2 c =
-    let z = c .before .before .before .before .before .before .before .args .z in
-    let k = toZ-ofZ (c .before .before .before .before .before .before .before .fits .z) in
-    let e : c .before .before .before .before .before .magnitude .result ≡ natAbs z = c .before .before .before .before .before .magnitude .ensures ∙ ap natAbs k in
-    rw (no-sign z (rw k at (c .before .before .before .before .if1 .left)), ← e) (c .before .before .put-millimetres2 .ensures)
+    let at-if1 = c .before .before .before .before in
+    let at-magnitude = at-if1 .before in
+    let start = at-magnitude .before .before in
+    let z = start .args .z in
+    let k = toZ-ofZ (start .fits .z) in
+    let e : at-magnitude .magnitude .result ≡ natAbs z = at-magnitude .magnitude .ensures ∙ ap natAbs k in
+    rw (no-sign z (rw k at (at-if1 .if1 .left)), ← e) (c .before .before .put-millimetres2 .ensures)
 
 pub put-coordinate-spec : {M : Type 1} → statement M
 put-coordinate-spec =

@@ -33,8 +33,16 @@ same-length c = search needs
 
 returns : tie.Need-returns
 returns c =
-    millimetres-put (c .before .before .before .before .before .before .before .before .before .before .before .before .before .before .before .before .before .before .before .before .before .before .before .before .args .m) (c .before .before .before .before .before .before .before .before .before .before .before .before .before .before .before .before .before .before .before .before .before .put-number .ensures) (c .before .before .before .before .before .before .before .before .before .before .before .before .before .before .before .before .before .push .ensures) (c .before .before .before .before .before .before .before .before .before .before .before .before .push2 .ensures) (c .before .before .before .before .before .before .before .push3 .ensures)
-    (c .before .before .push4 .ensures) (c .before .before .before .before .before .before .before .before .before .before .before .before .before .digit .ensures) (c .before .before .before .before .before .before .before .before .digit2 .ensures) (c .before .before .before .digit3 .ensures)
+    let at-digit3 = c .before .before .before in
+    let at-push3 = at-digit3 .before .before .before .before in
+    let at-digit2 = at-push3 .before in
+    let at-push2 = at-digit2 .before .before .before .before in
+    let at-digit = at-push2 .before in
+    let at-push = at-digit .before .before .before .before in
+    let at-put-number = at-push .before .before .before .before in
+    let start = at-put-number .before .before .before in
+    millimetres-put (start .args .m) (at-put-number .put-number .ensures) (at-push .push .ensures) (at-push2 .push2 .ensures) (at-push3 .push3 .ensures)
+    (c .before .before .push4 .ensures) (at-digit .digit .ensures) (at-digit2 .digit2 .ensures) (at-digit3 .digit3 .ensures)
 
 pub put-millimetres-spec : {M : Type 1} → statement M
 put-millimetres-spec =

@@ -36,7 +36,14 @@ same-length-2 : tie.Need-same-length-2
 same-length-2 c = search needs
 
 returns-2 : tie.Need-returns-2
-returns-2 c = put-last-two-digits (c .before .before .before .before .before .before .before .before .before .before .before .before .before .before .before .before .before .args .k) (c .before .before .before .before .before .before .before .before .before .before .before .before .before .before .before .if1 .left) (c .before .before .before .before .before .before .before .before .before .before .before .before .put-below-hundred2 .ensures) (c .before .before .before .before .before .before .before .push .ensures) (c .before .before .push2 .ensures) (c .before .before .before .before .before .before .before .before .digit .ensures) (c .before .before .before .digit2 .ensures)
+returns-2 c =
+    let at-digit2 = c .before .before .before in
+    let at-push = at-digit2 .before .before .before .before in
+    let at-digit = at-push .before in
+    let at-put-below-hundred2 = at-digit .before .before .before .before in
+    let at-if1 = at-put-below-hundred2 .before .before .before in
+    let start = at-if1 .before .before in
+    put-last-two-digits (start .args .k) (at-if1 .if1 .left) (at-put-below-hundred2 .put-below-hundred2 .ensures) (at-push .push .ensures) (c .before .before .push2 .ensures) (at-digit .digit .ensures) (at-digit2 .digit2 .ensures)
 
 put-digits-requires : tie.Need-put-digits-requires
 put-digits-requires c κs = search needs
@@ -46,7 +53,8 @@ same-length-3 c = search needs
 
 returns-3 : tie.Need-returns-3
 returns-3 c =
-    let k = c .before .before .before .before .before .before .before .args .k in
+    let start = c .before .before .before .before .before .before .before in
+    let k = start .args .k in
     let e : decimal k ≡ digitsOf 20 k = decimal-digits 19 k (omega arith) in
     rw e (c .before .before .put-digits .ensures)
 

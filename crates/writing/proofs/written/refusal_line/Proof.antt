@@ -36,12 +36,18 @@ same-length c = search needs
 returns : tie.Need-returns
 unfolding refusalLine
 returns c =
-    let r = c .before .before .before .before .before .before .before .before .before .before .before .before .before .before .before .before .before .before .before .before .before .before .args .refusal in
+    let at-number-field3 = c .before .before .before .before .before .before in
+    let at-number-field2 = at-number-field3 .before .before .before .before in
+    let at-number-field = at-number-field2 .before .before .before .before in
+    let at-number-of = at-number-field .before in
+    let at-put-two = at-number-of .before .before .before .before in
+    let start = at-put-two .before .before .before in
+    let r = start .args .refusal in
     let number : List ℕ = decimal (numberOf (r .fault)) in
-    let begun = line-start noBytes (c .before .before .before .before .before .before .before .before .before .before .before .before .before .before .before .before .before .before .before .put-two .ensures) in
-    let first = line-field noBytes [] number begun (rw (c .before .before .before .before .before .before .before .before .before .before .before .before .before .before .before .number-of .ensures) at (c .before .before .before .before .before .before .before .before .before .before .before .before .before .before .number-field .ensures)) in
-    let second = line-field noBytes (number ∷ []) (decimal (r .place)) first (c .before .before .before .before .before .before .before .before .before .before .number-field2 .ensures) in
-    let third = line-field noBytes (number ∷ decimal (r .place) ∷ []) (decimal (r .second)) second (c .before .before .before .before .before .before .number-field3 .ensures) in
+    let begun = line-start noBytes (at-put-two .put-two .ensures) in
+    let first = line-field noBytes [] number begun (rw (at-number-of .number-of .ensures) at (at-number-field .number-field .ensures)) in
+    let second = line-field noBytes (number ∷ []) (decimal (r .place)) first (at-number-field2 .number-field2 .ensures) in
+    let third = line-field noBytes (number ∷ decimal (r .place) ∷ []) (decimal (r .second)) second (at-number-field3 .number-field3 .ensures) in
     put-two third (c .before .before .push .ensures)
 
 pub refusal-line-spec : {M : Type 1} → statement M

@@ -1,0 +1,7 @@
+-- The page's section "The text file".
+pub mod Number
+pub mod Line
+pub mod File
+pub mod Records
+pub mod GoodFields
+pub mod Samples

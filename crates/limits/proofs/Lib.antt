@@ -1,0 +1,2 @@
+-- What is proved of the numbers of the page.
+pub mod Theorems

@@ -1,0 +1,1 @@
+-- The numbers of a field are defined in the room format; there is nothing to add.

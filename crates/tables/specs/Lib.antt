@@ -1,0 +1,2 @@
+-- How the records of a table are judged.
+pub mod JudgedRecords
