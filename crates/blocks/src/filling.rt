@@ -56,7 +56,13 @@ fn put_block(numbers: &[u16], cuts: &[u8; 1536], keys: &mut [u64], at: usize) ->
 }
 
 // The keys and the sizes of the first n elements, by the table of cuts; how many tetrahedra they make.
-fn fill_each(table: &[u16], n: usize, cuts: &[u8; 1536], keys: &mut [u64], sizes: &mut [u8]) -> usize
+fn fill_each(
+    table: &[u16],
+    n: usize,
+    cuts: &[u8; 1536],
+    keys: &mut [u64],
+    sizes: &mut [u8],
+) -> usize
     requires { ⌜ WholeTable (now table) n ⌝ }
     requires { ⌜ now cuts ≡ cutPlaces ⌝ }
     requires { ⌜ tetrahedronLimit ≤ length (now keys) ⌝ }

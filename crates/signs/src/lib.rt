@@ -39,7 +39,12 @@ pub fn sign_report(
         BlocksAnswer::Refused(refusal) => SignAnswer::Refused(refusal),
         BlocksAnswer::Done(_) => match judge_vertices(vertices, vertex_count) {
             Ruling::Refused(refusal) => SignAnswer::Refused(refusal),
-            Ruling::Passed => SignAnswer::Done(counting::count_signs(&keys, &sizes, element_count, vertices)),
+            Ruling::Passed => SignAnswer::Done(counting::count_signs(
+                &keys,
+                &sizes,
+                element_count,
+                vertices,
+            )),
         },
     }
 }
