@@ -1,21 +1,20 @@
 -- The vertex numbers of an accepted table's tetrahedra lie from 1 to the vertex count; so their keys tell the tetrahedra.
 -- Assumes nothing.
-use mathlib.Core.Path.{_≡_, refl, sym, ap, _∙_, subst}
+use mathlib.Core.Path.{_≡_, refl, sym, subst}
 use mathlib.Core.Bool.{Bool, true, _&&_}
 use mathlib.Core.List.{List, [], _∷_, map}
-use Prim.Native.Nat.{ℕ, _≤_, _<_}
+use Prim.Native.Nat.{ℕ, _<_}
 use native.Mathlib.Omega.{arith}
 use lib.Dec.{T, leb, ltb, leb→le}
-use Rattle.limits.specs.Limits.{vertexLimit}
 use Rattle.laws.specs.Words.{every, among, gather}
 use Rattle.laws.proofs.TestLaws.{and-left, and-right, and-both}
 use Rattle.laws.proofs.EveryLaws.{every-implies, every-append, among-every}
 use Rattle.faults.specs.Refusals.{accepted}
-use Rattle.solids.specs.Solids.{Tet, tet, Element, element, ofTet, cornersOf}
+use Rattle.solids.specs.Solids.{Tet, tet, Element, ofTet, cornersOf}
 use Rattle.solids.specs.Cut.{cut, cutMesh}
 use Rattle.solids.specs.Fit.{proper}
 use Rattle.solids.proofs.Theorems.{plain}
-use Rattle.records.specs.Record.{elementOf, recordAt, elementAt, firstElements}
+use Rattle.records.specs.Record.{elementOf, recordAt, elementAt}
 use Rattle.records.specs.WholeRecords.{isNumber}
 use Rattle.records.proofs.Theorems.{first-all, clean-faultless, clean-whole, whole-proper}
 use Rattle.judging.specs.Judge.{judged}

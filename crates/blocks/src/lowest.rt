@@ -1,6 +1,5 @@
 // The place of an element's lowest corner.
 ghost use mathlib.Core.Path.{_≡_};
-ghost use lib.Dec.{T};
 ghost use Rattle.solids.specs.Cut.{first};
 ghost use Rattle.blocks.specs.BlockLoops.{Cornered};
 use faces::vertex_at;

@@ -1,11 +1,9 @@
 -- From the blocks of a table and what is stored of them to the answer of cutting.
 -- Assumes nothing.
-use mathlib.Core.Path.{_≡_, refl, sym, ap, _∙_, subst}
-use mathlib.Core.Bool.{true, false}
-use mathlib.Core.List.{List, [], _∷_, _++_, map}
+use mathlib.Core.Path.{_≡_, sym, ap, _∙_, subst}
+use mathlib.Core.List.{List, [], _∷_, map}
 use Prim.Native.Nat.{ℕ, _*_, _/_, _≤_, _<_}
 use native.Mathlib.Omega.{arith}
-use lib.Dec.{ltb}
 use lib.ListN.{length, take, length-map}
 use lib.Seq.{length-take-le}
 use borrow.Author.Tests.{lt-ltb, le-ltb}
@@ -14,12 +12,10 @@ use Rattle.laws.specs.Lent.{laid}
 use Rattle.laws.proofs.LentLaws.{laid-none}
 use Rattle.faults.specs.declared.Fault.the-variants.{Room}
 use Rattle.faults.specs.declared.Refusal.{Refusal}
-use Rattle.faults.specs.Refusals.{accepted, refused, refuse, andThen, recordsOf, answerOf}
+use Rattle.faults.specs.Refusals.{accepted, refuse, answerOf}
 use Rattle.solids.specs.Solids.{Tet}
 use Rattle.solids.specs.Cut.{cutMesh}
 use Rattle.tets.specs.Tets.{keyed}
-use Rattle.judging.specs.Judge.{judged}
-use Rattle.blocks.specs.declared.BlocksAnswer.{BlocksAnswer}
 use Rattle.blocks.specs.declared.BlocksAnswer.the-variants as blocks
 use Rattle.blocks.specs.Blocks.{BlocksDone, BlocksCut}
 use Rattle.blocks.proofs.Theorems.{blocks-refused, blocks-cut, keys-few, keys-kept, keys-first, keys-tell}

@@ -1,15 +1,14 @@
 -- Keys parted into blocks: one block more, the blocks of an accepted table, and that their vertices are within the limits.
 -- Assumes nothing.
 use mathlib.Core.Path.{_≡_, refl, sym, ap, _∙_, subst}
-use mathlib.Core.Bool.{Bool, true}
 use mathlib.Core.List.{List, [], _∷_, _++_, map, map-append, append-assoc}
-use Prim.Native.Nat.{ℕ, zero, suc, _+_, _*_, _-_, _≤_, _<_}
+use Prim.Native.Nat.{ℕ, zero, suc, _+_, _-_, _≤_, _<_}
 use native.Mathlib.Nat.{le-refl, add-zero, add-suc, add-sub-of-le}
 use native.Mathlib.Numerals.{add-one}
 use native.Mathlib.Omega.{arith}
 use lib.Dec.{T, ltb, leb, ltb→lt, leb→le}
 use lib.IntN.{ℤ}
-use lib.ListN.{length, take, drop, getD, length-append, length-map, length-take, take-append-drop, List·getD-map}
+use lib.ListN.{length, take, drop, getD, length-append, take-append-drop, List·getD-map}
 use lib.Seq.{take-at, drop-at, take-suc, drop-drop, getD-take}
 use Rattle.laws.proofs.ListLaws.{map-drop}
 use Rattle.limits.specs.Limits.{elementLimit, tetrahedronLimit}
@@ -26,7 +25,7 @@ use Rattle.records.proofs.Theorems.{first-length}
 use Rattle.judging.proofs.Theorems.{accepted-elements, accepted-few, accepted-proper}
 use Rattle.tets.specs.Tets.{keyed}
 use Rattle.vertices.specs.Vertices.{Ranged}
-use Rattle.blocks.specs.Blocks.{keysOf, sizesOf, numbered, BlocksCut}
+use Rattle.blocks.specs.Blocks.{sizesOf, numbered, BlocksCut}
 use Rattle.blocks.proofs.Theorems.{keys-few, keys-kept, sizes-kept, keys-first, sizes-first, accepted-numbered, keys-tell}
 use Rattle.signs.specs.SignLoops.{parted, total, rangedTet, RangedBlocks}
 

@@ -1,7 +1,6 @@
 // The signs of a cut's tetrahedra, counted block by block.
 ghost use mathlib.Core.Path.{_≡_};
 ghost use mathlib.Core.List.{[], _∷_, map};
-ghost use Prim.Native.Nat.{_≤_};
 ghost use lib.Dec.{T};
 ghost use lib.ListN.{take};
 ghost use Rattle.tets.specs.Tets.{tetOf, keyed};

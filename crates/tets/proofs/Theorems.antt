@@ -3,7 +3,7 @@
 use mathlib.Core.Path.{_≡_, sym, ap, _∙_}
 use Prim.Native.Nat.{ℕ, _<_}
 use lib.Dec.{leb}
-use Rattle.solids.specs.Solids.{Vertex, Tet, tet, ofTet}
+use Rattle.solids.specs.Solids.{Tet, tet, ofTet}
 use Rattle.solids.specs.Cut.{written, upTo}
 use Rattle.tets.specs.declared.Tet as code
 use Rattle.tets.specs.Tets.{tetOf, keyOf, keyed}

@@ -1,6 +1,5 @@
 -- `blocks::cut_blocks` meets its contract: refused as it is judged, with nothing written, or the blocks of all elements.
 -- Assumes nothing.
-use native.Mathlib.Omega.{arith}
 use borrow.Author.Needs.{needs}
 use denote.Ref.{now}
 use Rattle.judging.specs.Judgement.{Accepted}

@@ -1,6 +1,6 @@
 -- `mesh::cut_mesh` meets its contract: refused as it is judged, or what is stored of its blocks.
 -- Assumes nothing.
-use mathlib.Core.Path.{_≡_, refl, sym, ap, _∙_, subst}
+use mathlib.Core.Path.{_≡_, sym, _∙_, subst}
 use mathlib.Core.List.{List}
 use Prim.Native.Nat.{ℕ, _≤_}
 use native.Mathlib.Omega.{arith}
@@ -8,7 +8,6 @@ use borrow.Author.Needs.{needs}
 use denote.Ref.{now}
 use lib.ListN.{length, replicate, length-replicate}
 use Rattle.blocks.specs.declared.BlocksAnswer.{BlocksAnswer}
-use Rattle.blocks.specs.declared.BlocksAnswer.the-variants as blocks
 use Rattle.blocks.specs.Blocks.{BlocksDone}
 use Rattle.mesh.proofs.CutLaws.{table-refused, keys-whole, keys-enough, table-cut}
 use Rattle.mesh.proofs.cut_mesh.Statement.{statement}

@@ -1,7 +1,6 @@
 -- ROOM, then RANGE with the first vertex beyond the limits.
 -- Assumes nothing.
 use native.Mathlib.Omega.{arith}
-use borrow.Author.Needs.{needs}
 use Rattle.vertices.proofs.VertexLaws.{short, beyond, passing}
 use Rattle.vertices.proofs.judge_vertices.Statement.{statement}
 use Rattle.vertices.proofs.judge_vertices.Tie as tie

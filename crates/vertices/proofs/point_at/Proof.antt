@@ -1,11 +1,8 @@
 -- The three numbers of the table are the vertex; far behind its end they are zeros.
 -- Assumes nothing.
-use mathlib.Core.Path.{_∙_, sym, ap}
-use Prim.Native.Nat.{ℕ, _+_, _*_, _/_, _<_}
+use mathlib.Core.Path.{_∙_}
 use mir.Syntax.{w32}
 use mir.Facts.{toZ-ofZ}
-use lib.IntN.{pos}
-use lib.ListN.{length, getD}
 use borrow.Author.Needs.{needs}
 use Rattle.volume.specs.Volume.{pointAt}
 use Rattle.vertices.proofs.VertexLaws.{behind-end}

@@ -9,10 +9,10 @@ use lib.Dec.{T}
 use lib.ListN.{length}
 use Rattle.solids.specs.declared.Solid.the-variants.{Hexahedron}
 use Rattle.solids.specs.Solids.{element}
-use Rattle.solids.specs.Cut.{fan, inOrder, cut}
+use Rattle.solids.specs.Cut.{fan, inOrder}
 use Rattle.solids.specs.Rows.{cutByRow}
 use Rattle.solids.specs.Fit.{proper}
-use Rattle.records.specs.Record.{kindOf, usedOf, solidOf, elementOf}
+use Rattle.records.specs.Record.{kindOf, usedOf, solidOf}
 use Rattle.blocks.specs.BlockLoops.{Cornered}
 use Rattle.blocks.proofs.BlockLaws.{block-same}
 use Rattle.blocks.proofs.CornerLaws.{proper-cornered}

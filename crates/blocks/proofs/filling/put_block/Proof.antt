@@ -5,9 +5,6 @@ use native.Mathlib.Omega.{arith}
 use borrow.Author.Needs.{needs}
 use denote.Ref.{now}
 use Rattle.laws.specs.Lent.{placed}
-use Rattle.solids.specs.Cut.{cut}
-use Rattle.records.specs.Record.{elementOf}
-use Rattle.blocks.specs.BlockLoops.{BlockIs}
 use Rattle.blocks.proofs.BlockLaws.{block-long}
 use Rattle.blocks.proofs.FillLaws.{block-keys}
 use Rattle.blocks.proofs.filling.put_block.Statement.{statement}

@@ -1,11 +1,10 @@
 -- The loop keeps the keys before k placed.
 -- Assumes nothing.
 use mathlib.Core.Path.{_≡_, refl, sym, ap, _∙_}
-use mathlib.Core.List.{List, [], _∷_, _++_}
+use mathlib.Core.List.{List, [], _∷_}
 use Prim.Native.Nat.{ℕ, _+_, _-_, _≤_, _<_}
 use native.Mathlib.Numerals.{add-one}
 use native.Mathlib.Omega.{arith}
-use borrow.Author.Needs.{needs}
 use lib.ListN.{length, take, getD, set, length-set}
 use lib.Seq.{take-suc, length-take-le}
 use Rattle.laws.specs.Lent.{placed}

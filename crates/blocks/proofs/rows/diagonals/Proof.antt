@@ -1,6 +1,5 @@
 -- Face by face, from the last to the first: each step knows the choice of the faces so far.
 -- Assumes nothing.
-use mathlib.Core.Path.{_≡_}
 use mathlib.Core.List.{List, [], _∷_}
 use Prim.Native.Nat.{ℕ}
 use native.Mathlib.Omega.{arith}

@@ -4,13 +4,11 @@ use mathlib.Core.Path.{_≡_, refl, sym, ap, _∙_, subst}
 use mathlib.Core.List.{List, [], _∷_, _++_, map}
 use Prim.Native.Nat.{ℕ, _+_, _*_, _-_, _≤_, _<_}
 use native.Mathlib.Omega.{arith}
-use borrow.Author.Needs.{needs}
 use denote.Ref.{now}
 use lib.Dec.{T}
 use lib.IntN.{ℤ}
 use lib.ListN.{length, take, drop, getD, length-map, length-drop}
 use lib.Seq.{length-take-le, getD-take, getD-drop}
-use Rattle.solids.specs.Solids.{Tet}
 use Rattle.tets.specs.Tets.{keyed}
 use Rattle.signs.specs.declared.SignCounts.{SignCounts}
 use Rattle.signs.specs.SignLoops.{parted, total, rangedTet, RangedBlock, RangedBlocks, blockCounts, ofCounts, FewSums, Summed}
