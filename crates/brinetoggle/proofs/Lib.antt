@@ -1,4 +1,4 @@
 -- What is proved of the program.
-pub mod ReadingLaws
+pub mod InputLaws
 pub mod RespondingLaws
 pub mod Theorems

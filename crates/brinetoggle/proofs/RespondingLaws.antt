@@ -14,7 +14,7 @@ use Rattle.converting.specs.declared.ConvertAnswer.{ConvertAnswer}
 use Rattle.converting.specs.declared.ConvertAnswer.the-variants.{Done, Refused}
 use Rattle.converting.specs.Conversion.{conversion, written, programOutput}
 use Rattle.converting.specs.Converting.{longestOutput, ConvertDone}
-use Rattle.converting.proofs.PutLaws.{take-laid}
+use Rattle.converting.proofs.PutTextLaws.{take-laid}
 use Rattle.converting.proofs.Theorems.{convert-written, convert-refused, conversion-short, line-short}
 use Rattle.brinetoggle.specs.declared.responding.Response.the-variants.{Mesh, Refusal}
 use Rattle.brinetoggle.specs.Responding.{lengthIn, Responded}

@@ -17,7 +17,7 @@ use Rattle.faults.specs.declared.Fault.the-variants as fault
 use Rattle.faults.specs.Refusals.{refused, refuse}
 use Rattle.format.specs.File.{fileVerdict}
 use Rattle.converting.specs.Conversion.{conversion, programOutput}
-use Rattle.brinetoggle.specs.Reading.{inputRoom}
+use Rattle.brinetoggle.specs.Input.{inputRoom}
 use Rattle.brinetoggle.specs.Responding.{lengthOf, verdictIn, Responded}
 use Rattle.brinetoggle.specs.declared.responding.Response.{Response}
 

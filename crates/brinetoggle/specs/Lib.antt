@@ -1,3 +1,3 @@
 -- What the program says of its input and its output.
-pub mod Reading
+pub mod Input
 pub mod Responding

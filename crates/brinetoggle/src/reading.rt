@@ -4,7 +4,7 @@ ghost use mathlib.Core.Path.{_≡_};
 ghost use Prim.Native.Nat.{_+_, _^_, _<_};
 ghost use lib.IntN.{natAbs};
 ghost use lib.ListN.{length};
-ghost use Rattle.brinetoggle.specs.Reading.{turnOf, TurnWithin, InputWithin};
+ghost use Rattle.brinetoggle.specs.Input.{turnOf, TurnWithin, InputWithin};
 
 // What reading gives: how many bytes stand at the front of the room, or that a read failed.
 pub enum Input {

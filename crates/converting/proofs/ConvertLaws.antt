@@ -14,7 +14,7 @@ use Rattle.writing.specs.Written.{inRoom}
 use Rattle.converting.specs.declared.ConvertAnswer.the-variants.{Done, Refused}
 use Rattle.converting.specs.Converting.{convertVerdict, Left}
 use Rattle.converting.specs.ConversionLoops.{Put}
-use Rattle.converting.proofs.PutLaws.{take-laid}
+use Rattle.converting.proofs.PutTextLaws.{take-laid}
 
 -- a refusal, and the output as it was
 pub left-refused : (old : List ℕ) {r : Refusal} {v : Verdict (List ℕ)} → v ≡ refused r → Left v old (Refused r) old

@@ -37,7 +37,7 @@ use Rattle.judging.proofs.Theorems.{accepted-elements, accepted-proper, accepte
 use Rattle.records.proofs.TetrahedronRecord.{isGood, record-faultless}
 use Rattle.converting.specs.Conversion.{cutRoom}
 use Rattle.converting.specs.ConversionLoops.{GoodTetrahedra}
-use Rattle.converting.proofs.PutLaws.{take-laid}
+use Rattle.converting.proofs.PutTextLaws.{take-laid}
 use Rattle.converting.proofs.MeshTextLaws.{noTet, tetrahedron-record}
 
 -- ---- a tetrahedron

@@ -1,6 +1,6 @@
 -- What is proved of the conversion.
-pub mod PutLaws
-pub mod TableLaws
+pub mod PutTextLaws
+pub mod GoodTableLaws
 pub mod MeshTextLaws
 pub mod ConvertLaws
 pub mod CutLaws

@@ -22,7 +22,7 @@ use Rattle.text.specs.declared.ReadAnswer.the-variants.{Done, Refused}
 use Rattle.text.specs.declared.ReadCounts.{ReadCounts}
 use Rattle.converting.specs.Conversion.{rooms}
 use Rattle.converting.specs.ConversionLoops.{GoodVertices}
-use Rattle.converting.proofs.PutLaws.{take-laid}
+use Rattle.converting.proofs.PutTextLaws.{take-laid}
 
 -- ---- what reading leaves
 

@@ -18,7 +18,7 @@ use Rattle.converting.specs.Conversion.{rooms, cutRoom, cutText, convers
 use Rattle.converting.specs.Converting.{longestVertex, longestTetrahedron, longestOutput}
 use Rattle.converting.specs.ConversionLoops.{vertexText, tetrahedronRecord, tetrahedronText, textTo, meshText, GoodVertices, GoodTetrahedra}
 use Rattle.converting.proofs.MeshTextLaws.{cut-text}
-use Rattle.converting.proofs.TableLaws.{vertices-below, vertex-short}
+use Rattle.converting.proofs.GoodTableLaws.{vertices-below, vertex-short}
 use Rattle.converting.proofs.CutLaws.{cut-tetrahedra}
 use Rattle.converting.proofs.ReadingLaws.{file-good}
 

@@ -25,7 +25,7 @@ use Rattle.converting.specs.declared.ConvertAnswer.the-variants.{Done, R
 use Rattle.converting.specs.Conversion.{conversion, written, programOutput}
 use Rattle.converting.specs.Converting.{longestOutput, conversionInto, convertVerdict, Left, ConvertDone}
 use Rattle.converting.specs.Program.{longestLine, LineDone, lineBytes, bytesFrom}
-use Rattle.converting.proofs.PutLaws.{take-laid}
+use Rattle.converting.proofs.PutTextLaws.{take-laid}
 use Rattle.converting.proofs.ConvertLaws.{left-refused, left-done}
 use Rattle.converting.proofs.PlaceLaws.{conversion-near}
 use Rattle.converting.proofs.ShortLaws as ShortLaws

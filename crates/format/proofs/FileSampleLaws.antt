@@ -7,7 +7,7 @@ use Rattle.format.specs.Number.{digitOf, appended, spelt, whole, decimal
 use Rattle.format.specs.Line.{markWith, markOf, fieldsOf, areFields, firstOf, fieldVerdict, fieldsVerdict, badMark, tooMany, badShape, noRoom, badCounts, afterRole, after, lineVerdict}
 use Rattle.format.specs.File.{start, atEnd, fileFrom, fileVerdict}
 use Rattle.format.specs.Records.{vertexRecord, elementRecord, vertexRecords, elementRecords, recordsFrom, storedVertices, storedElements}
-use Rattle.format.specs.Samples.{bytes, coordinateRead, coordinateSamples, fileRead, fileSamples}
+use Rattle.format.specs.FileSamples.{bytes, coordinateRead, coordinateSamples, fileRead, fileSamples}
 
 pub coordinates-hold : map coordinateRead coordinateSamples ≡ coordinateSamples
 unfolding bytes push split digitOf appended spelt whole decimals millimetres unsigned coordinateOf

@@ -28,7 +28,7 @@ use Rattle.format.specs.Number.{cut, coordinateOf}
 use Rattle.format.specs.File.{start, linesOf, fileVerdict}
 use Rattle.format.specs.Records.{vertexRecords, elementRecords, recordsFrom, storedVertices, storedElements}
 use Rattle.format.specs.StoredRecords.{Stored, EachRecord}
-use Rattle.format.specs.Samples.{coordinateRead, coordinateSamples, fileRead, fileSamples}
+use Rattle.format.specs.FileSamples.{coordinateRead, coordinateSamples, fileRead, fileSamples}
 use Rattle.format.specs.declared.Coordinate.the-variants.{Wrong}
 use Rattle.format.specs.declared.Rooms.{Rooms}
 use Rattle.format.proofs.FileSampleLaws as S

@@ -5,4 +5,4 @@ pub mod File
 pub mod Records
 pub mod StoredRecords
 pub mod GoodFields
-pub mod Samples
+pub mod FileSamples

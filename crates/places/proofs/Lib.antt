@@ -1,3 +1,3 @@
 -- What is proved of the looked-up places.
-pub mod TableLaws
+pub mod PlaceTableLaws
 pub mod Theorems

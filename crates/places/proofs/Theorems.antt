@@ -8,7 +8,7 @@ use Rattle.solids.specs.declared.Place.{Place}
 use Rattle.solids.specs.Solids.{faceCount, facePlace}
 use Rattle.solids.specs.Rows.{rowPlace, cutPlaces}
 use Rattle.solids.proofs.RowPlaces as RowPlaces
-use Rattle.places.proofs.TableLaws as TableLaws
+use Rattle.places.proofs.PlaceTableLaws as PlaceTableLaws
 
 -- `face_count`
 pub face-count-unique : (s : Solid) (a b : ℕ) → a ≡ faceCount s → b ≡ faceCount s → a ≡ b
@@ -31,7 +31,7 @@ cut-places-unique a b e f = e ∙ sym f
 
 -- every place is one of the eight, or 0 for none
 pub face-place-small : (s : Solid) (i k : ℕ) → facePlace s i k ≤ 8
-face-place-small = TableLaws.face-place-small
+face-place-small = PlaceTableLaws.face-place-small
 
 pub row-place-small : (r k : ℕ) → rowPlace r k ≤ 8
 row-place-small = RowPlaces.row-place-small

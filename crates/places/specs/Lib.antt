@@ -1,2 +1,2 @@
 -- What only the tables of the code want.
-pub mod Loops
+pub mod PlaceLoops

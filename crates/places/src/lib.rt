@@ -2,7 +2,7 @@
 ghost use mathlib.Core.Path.{_≡_};
 ghost use Rattle.solids.specs.Solids.{faceCount, facePlace};
 ghost use Rattle.solids.specs.Rows.{rowPlace, cutPlaces};
-ghost use Rattle.places.specs.Loops.{firstFace};
+ghost use Rattle.places.specs.PlaceLoops.{firstFace};
 use solids::Place;
 use solids::Solid;
 

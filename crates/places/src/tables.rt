@@ -4,7 +4,7 @@ ghost use mathlib.Core.List.{[]};
 ghost use Prim.Native.Nat.{_<_};
 ghost use lib.ListN.{getD};
 ghost use Rattle.solids.specs.Rows.{cutPlaces};
-ghost use Rattle.places.specs.Loops.{faceRows};
+ghost use Rattle.places.specs.PlaceLoops.{faceRows};
 
 // The faces of the tetrahedron, the pyramid, the prism and the hexahedron; the fourth place of a triangle is 0.
 const FACES: [[u8; 4]; 20] = [

@@ -16,7 +16,7 @@ use Rattle.solids.specs.Cut.{cut, cutMesh}
 use Rattle.solids.specs.Fit.{proper, common, sameSet, hasEdge, backFace, fits, fitting}
 use Rattle.solids.specs.Surface.{sides, back, sameTri, owners}
 use Rattle.solids.specs.Listings.{asElement}
-use Rattle.solids.proofs.WrittenLaws.{Apart}
+use Rattle.solids.proofs.WrittenFormLaws.{Apart}
 use Rattle.solids.proofs.SideLaws.{Same, s0, s1, s2, same-test}
 use Rattle.solids.proofs.CycleLaws.{Cycle, c0, c1, c2}
 use Rattle.solids.proofs.FaceFacts.{Apart₃, eqb-self, or-true}

@@ -12,7 +12,7 @@ use Rattle.solids.specs.Cut.{turned, lowestFirst, halves, cutFace}
 use Rattle.solids.specs.Fit.{backFace}
 use Rattle.solids.specs.Surface.{back, sameTri, times}
 use Rattle.laws.proofs.TestLaws.{or-cases}
-use Rattle.solids.proofs.WrittenLaws.{Apart, Least, first, second, third, fourth, least}
+use Rattle.solids.proofs.WrittenFormLaws.{Apart, Least, first, second, third, fourth, least}
 use Rattle.solids.proofs.SideLaws.{Same, s1, same-right, same-back, same-test, test-same, bool-iff}
 use Rattle.solids.proofs.TurnLaws.{turns-0, turns-1, turns-2, turns-3, cycle-apart, eqFace→eq}
 

@@ -7,7 +7,7 @@ use lib.Dec.{ltb}
 use borrow.Author.Tests.{eq-eqb, ne-eqb, lt-ltb, le-ltb}
 use Rattle.solids.specs.Solids.{four}
 use Rattle.solids.specs.Cut.{turned, lowestFirst, onDiagonal}
-use Rattle.solids.proofs.WrittenLaws.{Apart, Least, first, second, third, fourth, least}
+use Rattle.solids.proofs.WrittenFormLaws.{Apart, Least, first, second, third, fourth, least}
 use Rattle.solids.proofs.TurnLaws.{turns-0, turns-1, turns-2, turns-3}
 
 pub diagonal-min : (a b c d : ℕ) → Apart a b c d → onDiagonal a (lowestFirst (four a b c d)) ≡ ltb (min a c) (min b d)

@@ -9,7 +9,7 @@ use Rattle.solids.specs.Solids.{Tet, tet}
 use Rattle.solids.specs.Cut.{firstLowest, secondLowest, written}
 use Rattle.laws.proofs.TestLaws.{and-left, and-right}
 use Rattle.laws.proofs.EveryLaws.{every-front, every-rest}
-use Rattle.solids.proofs.WrittenLaws.{either}
+use Rattle.solids.proofs.WrittenFormLaws.{either}
 
 module _ {A : Type 0} where
   -- the last three turned

@@ -1,7 +1,7 @@
 -- What is proved of solids, their cut and how they fit.
 pub mod SampleLaws
 pub mod AscendingLaws
-pub mod WrittenLaws
+pub mod WrittenFormLaws
 pub mod RenamingLaws
 pub mod NumberingLaws
 pub mod ShapeLaws

@@ -17,7 +17,7 @@ use Rattle.solids.specs.Solids.{Solid, tetrahedron, pyramid, prism, hexa
 use Rattle.solids.specs.Cut.{lowestFirst, halves, cutFace, written, upTo, insert, inOrder, first, cut, cutMesh}
 use Rattle.solids.specs.Fit.{proper, sameSet, fits, fitting}
 use Rattle.solids.specs.Surface.{sides, sameTri, times, owners, within, byRule, Closed}
-use Rattle.solids.proofs.WrittenLaws.{Apart}
+use Rattle.solids.proofs.WrittenFormLaws.{Apart}
 use Rattle.solids.proofs.NumberingLaws.{number, number-inj}
 use Rattle.solids.proofs.ShapeLaws.{shape, Proper, from-proper}
 use Rattle.solids.proofs.HalfLaws.{allHalves, ways-of, cut-half, at-half}

@@ -11,7 +11,7 @@ use Rattle.solids.specs.Solids.{Face, three, four, Tri, tri, Tet, tet, o
 use Rattle.solids.specs.Cut.{turned, turns, halves, cutFace, lowestFirst, onDiagonal, follow, written, ascending, inOrder}
 use Rattle.laws.proofs.TestLaws.{and-left, and-right, not-among-cons, distinct-cons}
 use Rattle.solids.proofs.AscendingLaws.{ascending-through}
-use Rattle.solids.proofs.WrittenLaws.{FApart, written-even}
+use Rattle.solids.proofs.WrittenFormLaws.{FApart, written-even}
 
 -- the triangles of faces that are turned by the given numbers
 abbrev pub cutsAt : List (Face ℕ) → List ℕ → List (Tri ℕ)

@@ -13,7 +13,7 @@ use Rattle.solids.specs.Cut.{firstLowest, secondLowest, written, upTo, i
 use Rattle.solids.specs.Surface.{sides, back, eqTri, sameTri, times, owners}
 use Rattle.laws.proofs.TestLaws.{or-cases, or-left, or-right, and-left, and-right, T-true, true-T}
 use Rattle.laws.proofs.EveryLaws.{count-append, count-cong}
-use Rattle.solids.proofs.WrittenLaws.{either}
+use Rattle.solids.proofs.WrittenFormLaws.{either}
 use Rattle.solids.proofs.RenamingLaws.{eqb-on}
 
 abbrev pub turn : Tri ℕ → Tri ℕ

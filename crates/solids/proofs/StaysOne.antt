@@ -13,7 +13,7 @@ use Rattle.laws.proofs.TestLaws.{and-left, and-right}
 use Rattle.solids.specs.Solids.{Tet, tet, Element, ofTet, holds, facesOf}
 use Rattle.solids.specs.Cut.{cutFace, follow, firstLowest, secondLowest, written, upTo, insert, ascending, inOrder, tetsOf, cut, cutMesh}
 use Rattle.solids.specs.Listings.{asElement}
-use Rattle.solids.proofs.WrittenLaws.{Apart, Least, first, second, third, fourth, least, first-pairs, first-halves, first-back, written-turn, turned-apart, pairs-apart, halves-apart}
+use Rattle.solids.proofs.WrittenFormLaws.{Apart, Least, first, second, third, fourth, least, first-pairs, first-halves, first-back, written-turn, turned-apart, pairs-apart, halves-apart}
 use Rattle.solids.proofs.RenamingLaws.{apart-on}
 use Rattle.solids.proofs.FaceFacts.{eqb-self}
 

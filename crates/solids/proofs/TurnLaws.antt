@@ -13,7 +13,7 @@ use Rattle.solids.specs.Solids.{Face, three, four, tet}
 use Rattle.solids.specs.Rotations.{eqFace}
 use Rattle.solids.specs.Cut.{turned, turns}
 use Rattle.laws.proofs.TestLaws.{or-cases, and-left, and-right}
-use Rattle.solids.proofs.WrittenLaws.{Apart, Least, first, second, third, fourth, least}
+use Rattle.solids.proofs.WrittenFormLaws.{Apart, Least, first, second, third, fourth, least}
 use Rattle.solids.proofs.RenamingLaws.{asked, apart-on}
 
 -- 0 for the diagonal from the first corner, 1 for the other

@@ -10,7 +10,7 @@ use Rattle.volume.specs.declared.Point.{Point}
 use Rattle.volume.specs.declared.Row.{Row}
 use Rattle.limits.specs.Limits.{coordinateLimit}
 use Rattle.volume.specs.Volume.{pointInRange, minus, minor, determinant, sixfold}
-use Rattle.volume.specs.Rows.{reach, RowWithin}
+use Rattle.volume.specs.RowLoops.{reach, RowWithin}
 use Rattle.volume.proofs.RangeLaws.{Coordinates, coordinates, in-range-within}
 
 pub minus-within : (q p : Point) → pointInRange q ≡ true → pointInRange p ≡ true → RowWithin reach (minus q p)

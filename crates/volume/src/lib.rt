@@ -6,7 +6,7 @@ ghost use Rattle.faults.specs.declared.Fault.the-variants.{Range};
 ghost use lib.IntN.{_-ℤ_};
 ghost use Rattle.laws.specs.Sizes.{Within};
 ghost use Rattle.volume.specs.Volume.{inRange, pointInRange, minus, minor, determinant, VolumeDone};
-ghost use Rattle.volume.specs.Rows.{reach, RowWithin};
+ghost use Rattle.volume.specs.RowLoops.{reach, RowWithin};
 use faults::Fault;
 use faults::Refusal;
 use limits::COORDINATE_LIMIT;

@@ -8,8 +8,8 @@ use mathlib.Core.Path.{_≡_, sym, _∙_, ap}
 use mathlib.Core.List.{[]}
 use Rattle.solids.specs.declared.Solid.{Solid}
 use Rattle.solids.specs.Solids.{faceCount, facePlace}
-use Rattle.places.specs.Loops.{firstFace, faceRows}
-use Rattle.places.proofs.TableLaws.{face-beyond, corner-beyond, face-entry, face-inside}
+use Rattle.places.specs.PlaceLoops.{firstFace, faceRows}
+use Rattle.places.proofs.PlaceTableLaws.{face-beyond, corner-beyond, face-entry, face-inside}
 use Rattle.places.proofs.face_place.Statement.{statement}
 use Rattle.places.proofs.face_place.Tie as tie
 

@@ -7,7 +7,7 @@ use Rattle.laws.specs.Sizes.{Within}
 use Rattle.laws.proofs.SizeLaws.{Is, is, is-by, kept, within-kept, fits-sub, fits-add, fits-mul, is-sub, is-mul, is-add}
 use Rattle.volume.specs.declared.Row.{Row}
 use Rattle.volume.specs.Volume.{minor, determinant}
-use Rattle.volume.specs.Rows.{reach, RowWithin}
+use Rattle.volume.specs.RowLoops.{reach, RowWithin}
 use Rattle.volume.proofs.BoundLaws.{minorReach, minor-within}
 use Rattle.volume.proofs.determinant.Statement.{statement}
 use Rattle.volume.proofs.determinant.Tie as tie

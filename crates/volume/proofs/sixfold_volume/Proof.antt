@@ -10,7 +10,7 @@ use Rattle.volume.specs.declared.Point.{Point}
 use Rattle.volume.specs.declared.Row.{Row}
 use Rattle.volume.specs.declared.VolumeAnswer.the-variants.{Done}
 use Rattle.volume.specs.Volume.{pointInRange, minus, determinant, sixfold}
-use Rattle.volume.specs.Rows.{reach, RowWithin}
+use Rattle.volume.specs.RowLoops.{reach, RowWithin}
 use Rattle.volume.proofs.RangeLaws.{failed, passed}
 use Rattle.volume.proofs.BoundLaws.{minus-within}
 use Rattle.volume.proofs.VerdictLaws.{first-beyond, second-beyond, third-beyond, fourth-beyond, none-beyond}

@@ -1,7 +1,7 @@
 -- `brinetoggle::reading::read_more` reads behind the bytes that were read before, and within the room. Assumes nothing.
 use native.Mathlib.Omega.{arith}
 use mir.Facts.{toZ-ofZ}
-use Rattle.brinetoggle.proofs.ReadingLaws.{answer-small, turn-within}
+use Rattle.brinetoggle.proofs.InputLaws.{answer-small, turn-within}
 use borrow.Author.Needs.{needs}
 use Rattle.brinetoggle.proofs.reading.read_more.Statement.{statement}
 use Rattle.brinetoggle.proofs.reading.read_more.Tie as tie

@@ -1,7 +1,7 @@
 -- `brinetoggle::reading::turn_of` tells bytes, the end and a failure apart. Assumes nothing.
 use native.Mathlib.Omega.{arith}
 use mir.Facts.{toZ-ofZ}
-use Rattle.brinetoggle.proofs.ReadingLaws.{failed, ended, positive, moved}
+use Rattle.brinetoggle.proofs.InputLaws.{failed, ended, positive, moved}
 use borrow.Author.Needs.{needs}
 use Rattle.brinetoggle.proofs.reading.turn_of.Statement.{statement}
 use Rattle.brinetoggle.proofs.reading.turn_of.Tie as tie

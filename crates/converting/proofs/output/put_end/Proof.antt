@@ -4,7 +4,7 @@ use borrow.Author.Needs.{needs}
 use denote.Ref.{now}
 use Rattle.writing.proofs.Theorems.{end-written, end-line-short}
 use Rattle.converting.specs.Converting.{longestEnd}
-use Rattle.converting.proofs.PutLaws.{put-written}
+use Rattle.converting.proofs.PutTextLaws.{put-written}
 use Rattle.converting.proofs.output.put_end.Statement.{statement}
 use Rattle.converting.proofs.output.put_end.Tie as tie
 

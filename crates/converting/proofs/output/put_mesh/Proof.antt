@@ -1,7 +1,7 @@
 -- `converting::output::put_mesh` puts vertices, tetrahedra and EN one behind the other. Assumes nothing.
 use borrow.Author.Needs.{needs}
 use denote.Ref.{now}
-use Rattle.converting.proofs.PutLaws.{mesh-put}
+use Rattle.converting.proofs.PutTextLaws.{mesh-put}
 use Rattle.converting.proofs.output.put_mesh.Statement.{statement}
 use Rattle.converting.proofs.output.put_mesh.Tie as tie
 

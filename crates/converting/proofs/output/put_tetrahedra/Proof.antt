@@ -6,8 +6,8 @@ use borrow.Author.Needs.{needs}
 use denote.Ref.{now}
 use Rattle.converting.specs.Converting.{longestTetrahedron}
 use Rattle.converting.specs.ConversionLoops.{tetrahedronText}
-use Rattle.converting.proofs.PutLaws.{Lines, lines-none, lines-size, lines-at, lines-end, lines-room, lines-more, lines-next}
-use Rattle.converting.proofs.TableLaws.{tetrahedra-below}
+use Rattle.converting.proofs.PutTextLaws.{Lines, lines-none, lines-size, lines-at, lines-end, lines-room, lines-more, lines-next}
+use Rattle.converting.proofs.GoodTableLaws.{tetrahedra-below}
 use Rattle.converting.proofs.output.put_tetrahedra.Statement.{statement}
 use Rattle.converting.proofs.output.put_tetrahedra.Tie as tie
 

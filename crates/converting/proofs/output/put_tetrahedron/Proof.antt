@@ -2,7 +2,7 @@
 use borrow.Author.Needs.{needs}
 use denote.Ref.{now}
 use Rattle.converting.specs.ConversionLoops.{tetrahedronRecord}
-use Rattle.converting.proofs.TableLaws.{tetrahedron-put}
+use Rattle.converting.proofs.GoodTableLaws.{tetrahedron-put}
 use Rattle.converting.proofs.output.put_tetrahedron.Statement.{statement}
 use Rattle.converting.proofs.output.put_tetrahedron.Tie as tie
 

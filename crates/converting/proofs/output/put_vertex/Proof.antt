@@ -2,7 +2,7 @@
 use borrow.Author.Needs.{needs, sfits-of}
 use mir.Facts.{toZ-ofZ}
 use denote.Ref.{now}
-use Rattle.converting.proofs.TableLaws.{vertex-put}
+use Rattle.converting.proofs.GoodTableLaws.{vertex-put}
 use Rattle.converting.proofs.output.put_vertex.Statement.{statement}
 use Rattle.converting.proofs.output.put_vertex.Tie as tie
 

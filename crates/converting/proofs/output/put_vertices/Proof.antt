@@ -6,8 +6,8 @@ use borrow.Author.Needs.{needs}
 use denote.Ref.{now}
 use Rattle.converting.specs.Converting.{longestVertex}
 use Rattle.converting.specs.ConversionLoops.{vertexText}
-use Rattle.converting.proofs.PutLaws.{Lines, lines-none, lines-size, lines-at, lines-end, lines-room, lines-more, lines-next}
-use Rattle.converting.proofs.TableLaws.{vertices-below}
+use Rattle.converting.proofs.PutTextLaws.{Lines, lines-none, lines-size, lines-at, lines-end, lines-room, lines-more, lines-next}
+use Rattle.converting.proofs.GoodTableLaws.{vertices-below}
 use Rattle.converting.proofs.output.put_vertices.Statement.{statement}
 use Rattle.converting.proofs.output.put_vertices.Tie as tie
 

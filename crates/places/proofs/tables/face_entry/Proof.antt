@@ -2,7 +2,7 @@
 -- Assumes nothing.
 use borrow.Author.Needs.{needs}
 use mathlib.Core.Path.{refl}
-use Rattle.places.specs.Loops.{faceRows}
+use Rattle.places.specs.PlaceLoops.{faceRows}
 use Rattle.places.proofs.tables.face_entry.Statement.{statement}
 use Rattle.places.proofs.tables.face_entry.Tie as tie
 

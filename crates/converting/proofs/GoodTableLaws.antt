@@ -18,7 +18,7 @@ use Rattle.writing.specs.declared.WriteAnswer.{WriteAnswer}
 use Rattle.writing.proofs.Theorems.{vertex-written, vertex-line-short, element-written, element-line-by-kind}
 use Rattle.converting.specs.Converting.{longestVertex, longestTetrahedron}
 use Rattle.converting.specs.ConversionLoops.{Put, lengthIn, vertexText, tetrahedronRecord, tetrahedronText, GoodVertices, GoodTetrahedra}
-use Rattle.converting.proofs.PutLaws.{put-written}
+use Rattle.converting.proofs.PutTextLaws.{put-written}
 
 pub vertices-below : {t : List ℤ} {n k : ℕ} → GoodVertices t n → k < n → GoodVertices t (k + 1)
 vertices-below g h = record { few = omega (arith, g .few); long = omega (arith, g .long); ranged = g .ranged }

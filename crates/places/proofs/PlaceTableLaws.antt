@@ -11,7 +11,7 @@ use Rattle.laws.specs.Words.{every}
 use Rattle.solids.specs.declared.Solid.{Solid}
 use Rattle.solids.specs.declared.Solid.the-variants.{Tetrahedron, Pyramid, Prism, Hexahedron}
 use Rattle.solids.specs.Solids.{Face, three, four, faces, faceCount, faceCorners, facePlace, ofFace}
-use Rattle.places.specs.Loops.{faceRows, firstFace}
+use Rattle.places.specs.PlaceLoops.{faceRows, firstFace}
 use Rattle.laws.proofs.TestLaws.{and-left, and-right, below, at-below}
 use Rattle.solids.proofs.RowPlaces.{at-any}
 

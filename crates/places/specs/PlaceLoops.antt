@@ -1,4 +1,4 @@
--- Shapes that only the code wants; proofs/TableLaws.antt says that each is what the page's definitions give.
+-- Shapes that only the code wants; proofs/PlaceTableLaws.antt says that each is what the page's definitions give.
 use mathlib.Core.List.{List, [], _∷_, _++_, map}
 use Prim.Native.Nat.{ℕ}
 use Rattle.solids.specs.declared.Solid.{Solid}

@@ -10,7 +10,7 @@ use lib.IntN.{ℤ, pos, negsuc, natAbs}
 use lib.ListN.{length, take, drop, length-take, length-drop}
 use lib.Signed.{ltZ, nonNeg}
 use Rattle.libc.specs.Io.{Moved}
-use Rattle.brinetoggle.specs.Reading.{turnOf, TurnWithin}
+use Rattle.brinetoggle.specs.Input.{turnOf, TurnWithin}
 use Rattle.brinetoggle.specs.declared.reading.Input.the-variants.{Got, Failed}
 use Rattle.brinetoggle.specs.declared.reading.Turn.the-variants.{More, Stop}
 
