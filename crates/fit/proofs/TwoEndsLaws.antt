@@ -1,16 +1,17 @@
 -- Any vertices are the ends of an edge only if they are, as a set, the first of them and one other, or the first alone.
 -- Assumes nothing.
 use mathlib.Core.Path.{_≡_, refl, sym, ap, ap₂, _∙_, subst}
-use mathlib.Core.Bool.{Bool, true, false, cond, _&&_, _||_}
+use mathlib.Core.Bool.{Bool, true, false, cond, not, _&&_, _||_}
 use mathlib.Core.List.{List, [], _∷_}
 use mathlib.Core.Logic.{_⊎_, inl, inr}
-use Prim.Native.Nat.{ℕ, _<_}
+use Prim.Native.Nat.{ℕ, _≤_, _<_}
+use native.Mathlib.Omega.{arith}
 use native.Mathlib.Nat.{not-suc-le-zero}
 use lib.Dec.{T, eqb}
 use lib.ListN.{length, getD}
-use borrow.Author.Tests.{eqb-true, eqb-false}
+use borrow.Author.Tests.{eqb-true, eqb-false, eq-eqb}
 use Rattle.laws.specs.Words.{some, every, among}
-use Rattle.laws.proofs.TestLaws.{T-true, true-T}
+use Rattle.laws.proofs.TestLaws.{T-true, true-T, and-left, and-right}
 use Rattle.laws.proofs.EveryLaws.{some-at}
 use Rattle.solids.specs.Solids.{Edge, edge, Element, ends, elementEdges}
 use Rattle.solids.specs.Fit.{sameSet, hasEdge}
@@ -150,3 +151,54 @@ module _ (c : List ℕ) (some : 0 < length c) (e x : Element) {v : ℕ} {b : Boo
 
       pub ends-of-both : r ≡ true → {q : Bool} → q ≡ hasEdge (getD c 0 0 ∷ v ∷ []) x → q ≡ (hasEdge c e && hasEdge c x)
       ends-of-both z f = rw (of-two e first, z) (sym (of-two x f))
+
+-- ---- two vertices, and three different ones
+
+two-of : (c : List ℕ) → 1 < length c → length c ≤ 2 → c ≡ getD c 0 0 ∷ getD c 1 0 ∷ []
+two-of [] h l = absurd (omega arith)
+two-of (u ∷ []) h l = absurd (omega arith)
+two-of (u ∷ v ∷ []) h l = refl
+two-of (u ∷ v ∷ w ∷ c) h l = absurd (omega arith)
+
+module _ (c : List ℕ) (many : 1 < length c) (few : length c ≤ 2) (e x : Element) {r : Bool} (first : r ≡ hasEdge (getD c 0 0 ∷ getD c 1 0 ∷ []) e) where
+  of-pair : (y : Element) {q : Bool} → q ≡ hasEdge (getD c 0 0 ∷ getD c 1 0 ∷ []) y → hasEdge c y ≡ q
+  of-pair y f = ap (λ (d : List ℕ). hasEdge d y) (two-of c many few) ∙ sym f
+
+  pub pair-of-one : r ≡ false → false ≡ (hasEdge c e && hasEdge c x)
+  pair-of-one z = rw (of-pair e first, z)
+
+  pub pair-of-both : r ≡ true → {q : Bool} → q ≡ hasEdge (getD c 0 0 ∷ getD c 1 0 ∷ []) x → q ≡ (hasEdge c e && hasEdge c x)
+  pair-of-both z f = rw (of-pair e first, z) (sym (of-pair x f))
+
+three-no-edge : (u v w : ℕ) (c : List ℕ) → (u ≡ v → ⊥) → (u ≡ w → ⊥) → (v ≡ w → ⊥) → (e : Element) → hasEdge (u ∷ v ∷ w ∷ c) e ≡ false
+three-no-edge u v w c a b d e = go (hasEdge (u ∷ v ∷ w ∷ c) e) refl
+  where
+    neither : (w ≡ u) ⊎ (w ≡ v) → ⊥
+    neither (inl k) = b (sym k)
+    neither (inr k) = d (sym k)
+
+    clash : (E : Edge ℕ) → T (sameSet (u ∷ v ∷ w ∷ c) (ends E)) → ⊥
+    clash (edge p q) k =
+        let s = set-there (u ∷ v ∷ w ∷ c) (p ∷ q ∷ []) k in
+        neither (either w u v (in-two p q u v w a (s u (among-first u (v ∷ w ∷ c))) (s v (among-later v u (v ∷ w ∷ c) (among-first v (w ∷ c))))
+        (s w (among-later w u (v ∷ w ∷ c) (among-later w v (w ∷ c) (among-first w c))))))
+
+    go : (r : Bool) → hasEdge (u ∷ v ∷ w ∷ c) e ≡ r → hasEdge (u ∷ v ∷ w ∷ c) e ≡ false
+    go false q = q
+    go true q = let r = some-at (λ E. sameSet (u ∷ v ∷ w ∷ c) (ends E)) (elementEdges e) (true-T q) in absurd (clash (r .0) (r .2))
+
+differ : (x y : ℕ) → T (not (eqb x y)) → x ≡ y → ⊥
+differ x y h e = subst T (ap not (eq-eqb x y e)) h
+
+-- b: the first three vertices differ
+pub apart-no-edge : (c : List ℕ) → 2 < length c → (e x : Element) {b : Bool}
+    → b ≡ (not (eqb (getD c 0 0) (getD c 1 0)) && (not (eqb (getD c 0 0) (getD c 2 0)) && not (eqb (getD c 1 0) (getD c 2 0)))) → b ≡ true
+    → false ≡ (hasEdge c e && hasEdge c x)
+apart-no-edge [] h e x told t = absurd (omega arith)
+apart-no-edge (u ∷ []) h e x told t = absurd (omega arith)
+apart-no-edge (u ∷ v ∷ []) h e x told t = absurd (omega arith)
+apart-no-edge (u ∷ v ∷ w ∷ c) h e x told t =
+    let k = true-T (sym told ∙ t) in
+    let l = and-right (not (eqb u v)) (not (eqb u w) && not (eqb v w)) k in
+    rw (three-no-edge u v w c (differ u v (and-left (not (eqb u v)) (not (eqb u w) && not (eqb v w)) k)) (differ u w (and-left (not (eqb u w)) (not (eqb v w)) l))
+    (differ v w (and-right (not (eqb u w)) (not (eqb v w)) l)) e)

@@ -15,8 +15,8 @@ use solids::Vertex;
 
 mod sets;
 
-// The common vertices of two elements are the two ends of an edge of both.
-fn share_edge(
+// The common vertices of two elements, however often they stand, are the two ends of an edge of both.
+fn share_any_edge(
     vertices: &[u16],
     solid: Solid,
     corners: &[u16],
@@ -31,6 +31,31 @@ fn share_edge(
     let ends = [u.0, v.0];
     if !sets::all_among(vertices, &ends) {
         return false;
+    }
+    if edges::has_edge(u, v, solid, corners) {
+        return edges::has_edge(u, v, neighbour, others);
+    }
+    false
+}
+
+// The common vertices of two elements are the two ends of an edge of both; three different ones never are.
+fn share_edge(
+    vertices: &[u16],
+    solid: Solid,
+    corners: &[u16],
+    neighbour: Solid,
+    others: &[u16],
+) -> bool
+    requires { ⌜ 1 < length (now vertices) ⌝ }
+    ensures { λ r. ⌜ r ≡ (hasEdge (now (vertices .entry)) (element solid (now (corners .entry))) && hasEdge (now (vertices .entry)) (element neighbour (now (others .entry)))) ⌝ }
+{
+    let u = Vertex(vertices[0]);
+    let v = Vertex(vertices[1]);
+    if 2 < vertices.len() {
+        if sets::are_apart(u, v, Vertex(vertices[2])) {
+            return false;
+        }
+        return share_any_edge(vertices, solid, corners, neighbour, others);
     }
     if edges::has_edge(u, v, solid, corners) {
         return edges::has_edge(u, v, neighbour, others);

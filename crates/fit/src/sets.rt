@@ -1,5 +1,7 @@
 // Lists of vertex numbers as sets.
 ghost use mathlib.Core.Path.{_≡_};
+ghost use mathlib.Core.Bool.{not, _&&_};
+ghost use lib.Dec.{eqb};
 ghost use Prim.Native.Nat.{_≤_};
 ghost use lib.ListN.{length};
 ghost use Rattle.laws.specs.Words.{among, every};
@@ -50,6 +52,19 @@ pub fn common_of(corners: &[u16], others: &[u16], found: &mut [u16]) -> usize
         i += 1;
     }
     count
+}
+
+// Three vertices are three different ones.
+pub fn are_apart(u: Vertex, v: Vertex, w: Vertex) -> bool
+    ensures { λ r. ⌜ r ≡ (not (eqb (u .0) (v .0)) && (not (eqb (u .0) (w .0)) && not (eqb (v .0) (w .0)))) ⌝ }
+{
+    if u.0 == v.0 {
+        return false;
+    }
+    if u.0 == w.0 {
+        return false;
+    }
+    v.0 != w.0
 }
 
 // The first of the vertices that is another than u, or u where there is none.

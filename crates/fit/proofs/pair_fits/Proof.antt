@@ -111,7 +111,7 @@ share-edge-requires c κs =
     let k = counted (c .before) in
     let m = collected k in
     rw (size (now (start m .args .a)) (m .before .before .before .corners-of .ensures) (m .common-of .kept .1 .1 .0) (m .common-of .ensures))
-    (let h = k .if1 .left in omega arith)
+    (k .if1 .left)
 
 returns-2 : tie.Need-returns-2
 returns-2 c =

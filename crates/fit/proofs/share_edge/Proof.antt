@@ -1,46 +1,50 @@
--- `fit::share_edge` meets its contract: the vertices are at most two different ones, and these are asked of the one element and then of the other.
+-- `fit::share_edge` meets its contract: two vertices are asked of the one element and then of the other, three different ones are no edge.
 -- Assumes nothing.
-use mathlib.Core.Path.{_≡_, sym, _∙_}
-use mathlib.Core.Bool.{true, false}
 use mathlib.Core.List.{List}
 use Prim.Native.Nat.{ℕ}
 use borrow.Author.Needs.{needs}
-use borrow.Author.Tests.{not-true, not-false}
 use denote.Ref.{now}
 use Rattle.solids.specs.Solids.{Element, element}
-use Rattle.fit.proofs.TwoEndsLaws.{no-ends, ends-of-one, ends-of-both}
+use Rattle.fit.proofs.TwoEndsLaws.{pair-of-one, pair-of-both, apart-no-edge}
 use Rattle.fit.proofs.share_edge.Statement.{statement}
 use Rattle.fit.proofs.share_edge.Tie as tie
 
--- where the function starts, the vertices and the two elements
-abbrev start : tie.After-all-among → tie.Start
-start c = let k = c .before .before .before in k .before .before .before .before
+-- where the function starts, once the first two vertices are read
+abbrev start : tie.After-shared-slice-known5 → tie.Start
+start c = c .before .before .before .before .before
 
-abbrev vertices : tie.After-all-among → List ℕ
+abbrev vertices : tie.After-shared-slice-known5 → List ℕ
 vertices c = now (start c .args .vertices)
 
-abbrev one : tie.After-all-among → Element
+abbrev one : tie.After-shared-slice-known5 → Element
 one c = element (start c .args .solid) (now (start c .args .corners))
 
-abbrev other : tie.After-all-among → Element
+abbrev other : tie.After-shared-slice-known5 → Element
 other c = element (start c .args .neighbour) (now (start c .args .others))
 
-shared-slice-read-t10 : tie.Need-shared-slice-read-t10
-shared-slice-read-t10 c = search needs
+shared-slice-read-t9 : tie.Need-shared-slice-read-t9
+shared-slice-read-t9 c = search needs
 
-other-than-requires : tie.Need-other-than-requires
-other-than-requires c κs = search needs
+shared-slice-read-t9-2 : tie.Need-shared-slice-read-t9-2
+shared-slice-read-t9-2 c = search needs
 
-slice-aggregate-all-among : tie.Need-slice-aggregate-all-among
-slice-aggregate-all-among c = search needs
+shared-slice-read-t15 : tie.Need-shared-slice-read-t15
+shared-slice-read-t15 c = search needs
 
-all-among-requires : tie.Need-all-among-requires
-all-among-requires c κs = search needs
+are-apart-requires : tie.Need-are-apart-requires
+are-apart-requires c κs = search needs
 
 returns : tie.Need-returns
 returns c =
-    let k = c .before in
-    no-ends (vertices k) (start k .pre) (one k) (other k) (k .before .before .other-than .ensures) (k .all-among .ensures) (not-true _ (c .if1 .taken))
+    let l = c .before .before .before in
+    let k = l .before in
+    apart-no-edge (vertices k) (l .if1 .taken) (one k) (other k) (c .before .are-apart .ensures) (c .if2 .taken)
+
+share-any-edge-requires : tie.Need-share-any-edge-requires
+share-any-edge-requires c κs = search needs
+
+returns-2 : tie.Need-returns-2
+returns-2 c = c .share-any-edge .ensures
 
 has-edge-requires : tie.Need-has-edge-requires
 has-edge-requires c κs = search needs
@@ -48,28 +52,30 @@ has-edge-requires c κs = search needs
 has-edge-requires-2 : tie.Need-has-edge-requires-2
 has-edge-requires-2 c κs = search needs
 
-returns-2 : tie.Need-returns-2
-returns-2 c =
-    let k = c .before .before .before .before in
-    ends-of-both (vertices k) (start k .pre) (one k) (other k) (k .before .before .other-than .ensures) (k .all-among .ensures)
-    (not-false _ (c .before .before .before .if1 .left)) (c .before .before .has-edge .ensures) (c .before .if2 .taken) (c .has-edge2 .ensures)
-
 returns-3 : tie.Need-returns-3
 returns-3 c =
-    let k = c .before .before .before in
-    ends-of-one (vertices k) (start k .pre) (one k) (other k) (k .before .before .other-than .ensures) (k .all-among .ensures)
-    (not-false _ (c .before .before .if1 .left)) (c .before .has-edge .ensures) (c .if2 .left)
+    let l = c .before .before .before in
+    let k = l .before in
+    pair-of-both (vertices k) (start k .pre) (l .if1 .left) (one k) (other k) (c .before .before .has-edge .ensures) (c .before .if3 .taken) (c .has-edge2 .ensures)
+
+returns-4 : tie.Need-returns-4
+returns-4 c =
+    let l = c .before .before in
+    let k = l .before in
+    pair-of-one (vertices k) (start k .pre) (l .if1 .left) (one k) (other k) (c .before .has-edge .ensures) (c .if3 .left)
 
 pub share-edge-spec : {M : Type 1} → statement M
 share-edge-spec =
     tie.close
     (tie.spec
-    shared-slice-read-t10
-    other-than-requires
-    slice-aggregate-all-among
-    all-among-requires
+    shared-slice-read-t9
+    shared-slice-read-t9-2
+    shared-slice-read-t15
+    are-apart-requires
     returns
+    share-any-edge-requires
+    returns-2
     has-edge-requires
     has-edge-requires-2
-    returns-2
-    returns-3)
+    returns-3
+    returns-4)
