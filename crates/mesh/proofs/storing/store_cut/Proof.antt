@@ -3,7 +3,7 @@
 use native.Mathlib.Omega.{arith}
 use borrow.Author.Needs.{needs}
 use denote.Ref.{now}
-use Rattle.mesh.proofs.CutLaws.{no-room, with-room}
+use Rattle.mesh.proofs.CutAnswerLaws.{no-room, with-room}
 use Rattle.mesh.proofs.storing.store_cut.Statement.{statement}
 use Rattle.mesh.proofs.storing.store_cut.Tie as tie
 
