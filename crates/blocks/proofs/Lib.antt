@@ -10,5 +10,5 @@ pub mod CornerLaws
 pub mod RecordCutLaws
 pub mod FillLaws
 pub mod BlocksAnswerLaws
-pub mod NumberLaws
+pub mod CutNumberLaws
 pub mod Theorems

@@ -19,7 +19,7 @@ use Rattle.blocks.specs.declared.BlocksAnswer.{BlocksAnswer}
 use Rattle.blocks.specs.declared.BlocksAnswer.the-variants.{Done, Refused}
 use Rattle.blocks.specs.Blocks.{keysOf, sizesOf, numbered, blocksVerdict, BlocksDone, BlocksCut}
 use Rattle.blocks.proofs.BlocksAnswerLaws as A
-use Rattle.blocks.proofs.NumberLaws as N
+use Rattle.blocks.proofs.CutNumberLaws as N
 
 -- ---- uniqueness: two answers, and two pairs of arrays, that the contract allows are equal
 

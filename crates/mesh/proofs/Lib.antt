@@ -1,4 +1,4 @@
 -- What is proved of cutting.
 pub mod StoreLaws
-pub mod CutLaws
+pub mod CutAnswerLaws
 pub mod Theorems

@@ -1,4 +1,4 @@
--- A shape that only the private `store_cut` wants; proofs/CutLaws.antt says that it is what cutting does with the tetrahedra of a judged table.
+-- A shape that only the private `store_cut` wants; proofs/CutAnswerLaws.antt says that it is what cutting does with the tetrahedra of a judged table.
 use mathlib.Core.Path.{_≡_}
 use mathlib.Core.List.{List, [], _∷_}
 use Prim.Native.Nat.{ℕ, _*_}

@@ -1,7 +1,7 @@
 -- What is proved of the sign report.
-pub mod SignLaws
+pub mod SignCountLaws
 pub mod VolumeLaws
-pub mod PartLaws
+pub mod PartedLaws
 pub mod SignAnswerLaws
 pub mod SignedLaws
 pub mod Theorems

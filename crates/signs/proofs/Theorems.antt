@@ -14,7 +14,7 @@ use Rattle.signs.specs.declared.SignCounts.{SignCounts}
 use Rattle.signs.specs.declared.SignAnswer.{SignAnswer}
 use Rattle.signs.specs.declared.SignAnswer.the-variants as sign
 use Rattle.signs.specs.Signs.{signsOf, signVerdict, SignDone}
-use Rattle.signs.proofs.SignLaws.{counts-total}
+use Rattle.signs.proofs.SignCountLaws.{counts-total}
 use Rattle.signs.proofs.SignedLaws.{reported}
 
 -- ---- uniqueness: two answers that the contract allows are equal

@@ -1,5 +1,5 @@
--- Shapes that only the functions of the private module counting want; proofs/PartLaws.antt says that an accepted table's blocks are so, and
--- proofs/SignLaws.antt what the counts have to do with the page's definitions.
+-- Shapes that only the functions of the private module counting want; proofs/PartedLaws.antt says that an accepted table's blocks are so, and
+-- proofs/SignCountLaws.antt what the counts have to do with the page's definitions.
 use mathlib.Core.Path.{_≡_}
 use mathlib.Core.Bool.{Bool, not, _&&_}
 use mathlib.Core.List.{List, [], _∷_}

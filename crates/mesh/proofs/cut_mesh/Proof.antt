@@ -9,7 +9,7 @@ use denote.Ref.{now}
 use lib.ListN.{length, replicate, length-replicate}
 use Rattle.blocks.specs.declared.BlocksAnswer.{BlocksAnswer}
 use Rattle.blocks.specs.Blocks.{BlocksDone}
-use Rattle.mesh.proofs.CutLaws.{table-refused, keys-whole, keys-enough, table-cut}
+use Rattle.mesh.proofs.CutAnswerLaws.{table-refused, keys-whole, keys-enough, table-cut}
 use Rattle.mesh.proofs.cut_mesh.Statement.{statement}
 use Rattle.mesh.proofs.cut_mesh.Tie as tie
 

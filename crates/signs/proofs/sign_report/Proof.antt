@@ -13,8 +13,8 @@ use Rattle.blocks.proofs.Theorems.{blocks-refused, blocks-cut, keys-kept, sizes
 use Rattle.vertices.specs.Vertices.{Ranged}
 use Rattle.vertices.proofs.Theorems.{ruled-passed}
 use Rattle.signs.specs.SignLoops.{blockCounts}
-use Rattle.signs.proofs.PartLaws.{blocks-are, blocks-ranged}
-use Rattle.signs.proofs.SignLaws.{element-blocks}
+use Rattle.signs.proofs.PartedLaws.{blocks-are, blocks-ranged}
+use Rattle.signs.proofs.SignCountLaws.{element-blocks}
 use Rattle.signs.proofs.SignAnswerLaws.{table-refused, vertices-refused, all-counted}
 use Rattle.signs.proofs.sign_report.Statement.{statement}
 use Rattle.signs.proofs.sign_report.Tie as tie

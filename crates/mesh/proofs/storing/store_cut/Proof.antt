@@ -3,7 +3,7 @@
 use native.Mathlib.Omega.{arith}
 use borrow.Author.Needs.{needs}
 use denote.Ref.{now}
-use Rattle.mesh.proofs.CutLaws.{no-room, with-room}
+use Rattle.mesh.proofs.CutAnswerLaws.{no-room, with-room}
 use Rattle.mesh.proofs.storing.store_cut.Statement.{statement}
 use Rattle.mesh.proofs.storing.store_cut.Tie as tie
 
@@ -18,7 +18,7 @@ returns : tie.Need-returns
 returns c = let s = short c in no-room (now (s .args .keys)) (now (s .args .out)) (s .args .n) (s .pre) (c .if1 .taken)
 
 put-tets-requires : tie.Need-put-tets-requires
-put-tets-requires c κs = (long (c .before) .pre, omega (arith, c .before .if1 .left))
+put-tets-requires c κs = (omega (arith, long (c .before) .pre), omega (arith, c .before .if1 .left))
 
 same-length : tie.Need-same-length
 same-length c = search needs

@@ -12,8 +12,8 @@ use lib.Seq.{length-take-le, getD-take, getD-drop}
 use Rattle.tets.specs.Tets.{keyed}
 use Rattle.signs.specs.declared.SignCounts.{SignCounts}
 use Rattle.signs.specs.SignLoops.{parted, total, rangedTet, RangedBlock, RangedBlocks, blockCounts, ofCounts, FewSums, Summed}
-use Rattle.signs.proofs.PartLaws.{total-next, total-most, parted-none, parted-next, part-is}
-use Rattle.signs.proofs.SignLaws.{Bounded, counts-none, one-bounded, sums-few, sum-bounded, counts-joined}
+use Rattle.signs.proofs.PartedLaws.{total-next, total-most, parted-none, parted-next, part-is}
+use Rattle.signs.proofs.SignCountLaws.{Bounded, counts-none, one-bounded, sums-few, sum-bounded, counts-joined}
 use Rattle.signs.proofs.counting.count_signs.Statement.{statement}
 use Rattle.signs.proofs.counting.count_signs.Tie as tie
 

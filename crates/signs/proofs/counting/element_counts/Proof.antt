@@ -3,7 +3,7 @@
 use mathlib.Core.Path.{sym, _∙_}
 use borrow.Author.Needs.{needs}
 use denote.Ref.{now}
-use Rattle.signs.proofs.SignLaws.{sound-by-tally, counts-of-one}
+use Rattle.signs.proofs.SignCountLaws.{sound-by-tally, counts-of-one}
 use Rattle.signs.proofs.counting.element_counts.Statement.{statement}
 use Rattle.signs.proofs.counting.element_counts.Tie as tie
 

@@ -7,7 +7,7 @@ use mir.Facts.{toZ-ofZ}
 use Rattle.signs.specs.declared.counting.Sign.{Sign}
 use Rattle.signs.specs.declared.counting.Sign.the-variants.{Positive, Zero, Negative}
 use Rattle.signs.specs.SignLoops.{signOf}
-use Rattle.signs.proofs.SignLaws.{isPlus, isMinus, plus-sign, minus-sign}
+use Rattle.signs.proofs.SignCountLaws.{isPlus, isMinus, plus-sign, minus-sign}
 use Rattle.signs.proofs.counting.sign_of.Statement.{statement}
 use Rattle.signs.proofs.counting.sign_of.Tie as tie
 

@@ -17,7 +17,7 @@ use Rattle.signs.specs.declared.counting.Sign.{Sign}
 use Rattle.signs.specs.declared.counting.Tally.{Tally}
 use Rattle.signs.specs.Signs.{volumeIn}
 use Rattle.signs.specs.SignLoops.{rangedTet, RangedBlock, signOf, withSign, Few, Tallied}
-use Rattle.signs.proofs.SignLaws.{tallied-none, tallied-next, tallied-most}
+use Rattle.signs.proofs.SignCountLaws.{tallied-none, tallied-next, tallied-most}
 use Rattle.signs.proofs.counting.tally_block.Statement.{statement}
 use Rattle.signs.proofs.counting.tally_block.Tie as tie
 
