@@ -1,4 +1,6 @@
 // The cut of a judged table, before anything is stored: the keys of each element's tetrahedra, and how many each element has.
+#![tactic(auto)]
+
 ghost use Rattle.blocks.specs.Blocks.{BlocksDone};
 
 use faults::Refusal;

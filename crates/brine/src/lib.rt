@@ -2,6 +2,8 @@
 //
 // A slice is a pointer and a length that counts numbers; an array of fixed size is a bare pointer. Each function returns the refusal number,
 // 0 where it accepted, and writes the whole answer array: number, place, second number, then its own values, zeros where it refused.
+#![tactic(auto)]
+
 mod told;
 
 ghost use Rattle.std.specs.Prelude.{length};

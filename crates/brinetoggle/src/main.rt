@@ -1,4 +1,6 @@
 // The program: a mesh from standard input, cut, to standard output; or one line `NO number place second` there, and why on standard error.
+#![tactic(auto)]
+
 mod reading;
 mod responding;
 mod words;

@@ -1,5 +1,7 @@
 // Whole conversions, run and compared: the page's prism, refused files, and outputs that are just long enough and one byte too short.
 // A conversion prints the text, or `NO number place second`; where its output is shown, bytes that no call wrote are `.`.
+#![tactic(auto)]
+
 use converting::{ConvertAnswer, convert};
 use faults::Refusal;
 use libc::STDOUT_FILENO;

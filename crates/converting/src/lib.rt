@@ -1,5 +1,7 @@
 // The whole conversion as one function on memory: a file is read, its table is cut, the cut mesh is written.
 // The program only reads its input, calls `convert` and, where that refuses, `writing::write_refusal`, and writes.
+#![tactic(auto)]
+
 mod output;
 
 ghost use Rattle.std.specs.Prelude.{length};

@@ -1,4 +1,6 @@
 // Prints the table of the hexahedron's cuts as the library reads it: a line for each of the 64 rows, its 24 places apart by spaces.
+#![tactic(auto)]
+
 use libc::STDOUT_FILENO;
 
 fn print_place(row: usize, at: usize) {

@@ -1,4 +1,6 @@
 // Edges by their places: whether two vertices are the ends of an edge of an element.
+#![tactic(auto)]
+
 ghost use Rattle.std.specs.Prelude.{◌≡◌, [], ◌∷◌, true, ◌≤◌, ◌<◌, length, get_or};
 ghost use Rattle.solids.specs.Solids.{element};
 ghost use Rattle.solids.specs.Fit.{has_edge};

@@ -1,4 +1,6 @@
 // The faces of an element in vertex numbers: one face as a cycle, its lowest corner and its diagonal.
+#![tactic(auto)]
+
 ghost use Rattle.std.specs.Prelude.{◌≡◌, [], ◌∷◌, min, get_or};
 ghost use Rattle.laws.specs.Words.{among, lowest};
 ghost use Rattle.solids.specs.Solids.{at, element, three, four, holds, faces_of};

@@ -1,4 +1,6 @@
 // The page's refusals: their names, their numbers, and what a refusal carries. Only this room takes a fault apart.
+#![tactic(auto)]
+
 ghost use Rattle.std.specs.Prelude.{◌≡◌};
 ghost use Rattle.faults.specs.Refusals.{number_of};
 ghost use Rattle.faults.specs.Spots.{subject_of, table_spot, spot_of, refuser_of};
@@ -126,6 +128,7 @@ fn table_spot(refusal: Refusal) -> Spot
 }
 
 // What the place of a refusal means, by its fault and by who refused.
+#[tactic(auto, unfolding(crate::specs::Spots::spot_of))]
 pub fn spot_of(refusal: Refusal, refuser: Refuser) -> Spot
     ensures { result ≡ spot_of refuser refusal }
 {

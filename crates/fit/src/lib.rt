@@ -1,4 +1,6 @@
 // Whether two elements fit, as the page says it: the verdict of a pair of records.
+#![tactic(auto)]
+
 ghost use Rattle.std.specs.Prelude.{◌≡◌, ◌&&◌, ◌<◌, length};
 ghost use Rattle.laws.specs.Words.{some};
 ghost use Rattle.solids.specs.Solids.{element, of_face, faces_of};

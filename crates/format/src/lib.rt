@@ -1,5 +1,7 @@
 // The text file: the types that definitions and code share, its marks, what its fields and lines are to the reader, and the reader's state.
 // The definitions stand in specs/, what is proved of them in proofs/Theorems.antt; reading is the room text, writing the room writing.
+#![tactic(auto)]
+
 use faults::Fault;
 
 // The mark of a line, by the page's name; `Unknown` is any other, and that of a line too short for one.

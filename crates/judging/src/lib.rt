@@ -1,4 +1,6 @@
 // Element tables, judged: the counts and lengths, each record, each pair.
+#![tactic(auto)]
+
 ghost use Rattle.judging.specs.Judge.{JudgeDone};
 
 use faults::{Refusal, Ruling};

@@ -1,4 +1,6 @@
 // The numbers that the page names: limits, widths and bytes. Code in every room takes them from here; `page_numbers` pins each to its definition.
+#![tactic(auto)]
+
 ghost use Rattle.std.specs.Prelude.{◌≡◌};
 ghost use Rattle.limits.specs.Limits.{page_numbers};
 

@@ -1,4 +1,6 @@
 // Element tables, cut into tetrahedra.
+#![tactic(auto)]
+
 ghost use Rattle.mesh.specs.Cutting.{CutDone};
 
 use blocks::{BlocksAnswer, cut_blocks};

@@ -1,4 +1,6 @@
 // Tables judged, cut and counted by sign, printed as the library answers them: a line is the answer's numbers, or `NO number place second`.
+#![tactic(auto)]
+
 use faults::Refusal;
 use judging::JudgeAnswer;
 use libc::STDOUT_FILENO;

@@ -1,4 +1,6 @@
 // The numbers of the text file: a coordinate, a vertex number or count, each read from a whole field of any bytes.
+#![tactic(auto)]
+
 pub mod scan;
 
 ghost use Rattle.std.specs.Prelude.{◌≡◌, ◌≤◌, length};

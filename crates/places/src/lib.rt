@@ -1,4 +1,6 @@
 // The places that code looks up: those of the faces of a solid, and those of the hexahedron's cuts. Each table is proved to be what the page's definitions give.
+#![tactic(auto)]
+
 ghost use Rattle.std.specs.Prelude.{◌≡◌};
 ghost use Rattle.solids.specs.Solids.{face_count, face_place};
 ghost use Rattle.solids.specs.Rows.{row_place, cut_places};

@@ -2,6 +2,8 @@
 // Standard input has the samples: each is `#`, its name, byte 10, and the file as it stands up to the next `#`.
 // A line of output is the sample's name, the answer (`DONE vertices elements` or `NO number place second`), how many numbers of each lent table the
 // call changed from the canary that stood there, and these numbers where they are few.
+#![tactic(auto)]
+
 mod files;
 mod show;
 

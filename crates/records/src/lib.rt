@@ -1,4 +1,6 @@
 // The element record: its fields, and how it is judged. The definitions stand in specs/, what is proved of them in proofs/Theorems.antt.
+#![tactic(auto)]
+
 ghost use Rattle.std.specs.Prelude.{◌≡◌, take, drop};
 ghost use Rattle.laws.specs.Words.{some, among, distinct};
 ghost use Rattle.records.specs.Record.{kind_of, used_of, is_kind, solid_of, corner_at, stray_vertex, not_zero, record_finding, record_count, record_at, as_record};

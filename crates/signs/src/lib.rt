@@ -1,4 +1,6 @@
 // The sign report: a table is cut and its vertex table judged, then its tetrahedra are counted by the sign of their volume.
+#![tactic(auto)]
+
 ghost use Rattle.signs.specs.Signs.{SignDone};
 
 use blocks::{BlocksAnswer, cut_blocks};

@@ -1,5 +1,6 @@
 // Solids, their cut and how they fit: the types that definitions and code share. The definitions stand in specs/, what is proved of them in
 // proofs/Theorems.antt; the tables that code reads stand in the room places.
+#![tactic(auto)]
 
 // A local corner number, from 1; 0 is none.
 #[derive(Drop)]

@@ -1,4 +1,6 @@
 // The records of a table, judged one by one: the counts, the table's length, then the first record with a fault.
+#![tactic(auto)]
+
 ghost use Rattle.std.specs.Prelude.{◌≡◌, ◌<◌, pred};
 ghost use Rattle.faults.specs.Refusals.{refuse, ruled};
 ghost use Rattle.records.specs.Record.{record_finding, record_at};

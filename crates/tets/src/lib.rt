@@ -1,4 +1,6 @@
 // A tetrahedron in vertex numbers: its written form, and its key, one number that compares as the tetrahedron does.
+#![tactic(auto)]
+
 ghost use Rattle.std.specs.Prelude.{◌≡◌};
 ghost use Rattle.solids.specs.Cut.{second_lowest, written};
 ghost use Rattle.tets.specs.Tets.{tet_of, keyed};

@@ -1,4 +1,6 @@
 // The text file: reading it into two lent tables.
+#![tactic(auto)]
+
 mod field;
 mod file;
 mod line;

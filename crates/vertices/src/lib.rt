@@ -1,4 +1,6 @@
 // A vertex table, judged: ROOM, then RANGE with the first vertex beyond the limits; and its points.
+#![tactic(auto)]
+
 ghost use Rattle.std.specs.Prelude.{◌≡◌, ◌*◌, ◌-◌, ◌≤◌, pos, length, get_or};
 ghost use Rattle.limits.specs.Limits.{vertex_width};
 ghost use Rattle.faults.specs.Refusals.{ruled};

@@ -1,4 +1,6 @@
 // The sixfold volume of four points, judged: the determinant with rows b-a, c-a, d-a, or RANGE for the lowest point beyond the limits.
+#![tactic(auto)]
+
 ghost use Rattle.std.specs.Prelude.{◌≡◌, true, ◌-ℤ◌};
 ghost use Rattle.faults.specs.Refusals.{refuse};
 ghost use Rattle.faults.specs.declared.Fault.TheVariants.{Range};

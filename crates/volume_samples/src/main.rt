@@ -1,4 +1,6 @@
 // Sixfold volumes, printed as the library answers them: a line is the volume, or `NO number place second`.
+#![tactic(auto)]
+
 ghost use Rattle.std.specs.Prelude.{◌≡◌, nat_abs};
 
 use faults::Refusal;

@@ -1,4 +1,6 @@
 // Records as the library writes them, one a call: a line is the record, or `NO number place second` where the library refuses it.
+#![tactic(auto)]
+
 use faults::{Fault, Refusal};
 use libc::STDOUT_FILENO;
 use writing::{WriteAnswer, write_element, write_end, write_refusal, write_vertex};

@@ -1,4 +1,6 @@
 // The record writers: one record a call, as a line of text into a lent buffer, and the line of a refusal.
+#![tactic(auto)]
+
 mod written;
 
 ghost use Rattle.std.specs.Prelude.{◌≡◌, ◌≤◌, length};
