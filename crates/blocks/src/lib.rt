@@ -14,7 +14,7 @@ mod lowest;
 mod rows;
 
 // What cutting a table into blocks answers: how many tetrahedra there are, or why there are none.
-#[derive(Drop)]
+#[derive(Clone, Copy)]
 pub enum BlocksAnswer {
     Done(usize),
     Refused(Refusal),

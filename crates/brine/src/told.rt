@@ -18,7 +18,7 @@ use text::ReadAnswer;
 use writing::WriteAnswer;
 
 // An answer in the page's numbers, with room for the four values of the sign report; zeros stand behind the values of an entry with fewer.
-#[derive(Drop)]
+#[derive(Clone, Copy)]
 pub struct Told {
     pub number: u32,
     pub numbers: [u64; 7],

@@ -5,14 +5,14 @@ ghost use Rattle.brinetoggle.specs.Input.{turn_of, TurnWithin, InputWithin};
 use libc::STDIN_FILENO;
 
 // What reading gives: how many bytes stand at the front of the room, or that a read failed.
-#[derive(Drop)]
+#[derive(Clone, Copy)]
 pub enum Input {
     Got(usize),
     Failed,
 }
 
 // What one read gives: how many bytes there are with it, or how reading ends.
-#[derive(Drop)]
+#[derive(Clone, Copy)]
 pub enum Turn {
     More(usize),
     Stop(Input),

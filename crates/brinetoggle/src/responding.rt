@@ -8,7 +8,7 @@ use faults::Refusal;
 use writing::{WriteAnswer, write_refusal};
 
 // How many bytes there are to write: of the mesh, or of the line of a refusal.
-#[derive(Drop)]
+#[derive(Clone, Copy)]
 pub enum Response {
     Mesh(usize),
     Refusal(usize, Refusal),

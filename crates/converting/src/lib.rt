@@ -19,7 +19,7 @@ use mesh::{CutAnswer, cut_mesh};
 use text::{ReadAnswer, read_mesh};
 
 // What the conversion says: the length of the text, or a refusal.
-#[derive(Drop)]
+#[derive(Clone, Copy)]
 pub enum ConvertAnswer {
     Done(usize),
     Refused(Refusal),

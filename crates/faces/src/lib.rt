@@ -12,7 +12,7 @@ ghost use Rattle.faces.specs.Faces.{face_of};
 use solids::{Place, Solid, Vertex};
 
 // A face in vertex numbers, its corners in their outward cycle.
-#[derive(Drop)]
+#[derive(Clone, Copy)]
 pub enum Face {
     Three(Vertex, Vertex, Vertex),
     Four(Vertex, Vertex, Vertex, Vertex),

@@ -6,7 +6,7 @@ ghost use Rattle.faults.specs.Refusals.{number_of};
 ghost use Rattle.faults.specs.Spots.{subject_of, table_spot, spot_of, refuser_of};
 
 // A fault by the page's name, in the page's order.
-#[derive(Drop)]
+#[derive(Clone, Copy)]
 pub enum Fault {
     Long,
     Mark,
@@ -25,7 +25,7 @@ pub enum Fault {
 }
 
 // A fault, the place that it names, and the second number, which JOIN alone uses.
-#[derive(Drop)]
+#[derive(Clone, Copy)]
 pub struct Refusal {
     pub fault: Fault,
     pub place: usize,
@@ -33,28 +33,28 @@ pub struct Refusal {
 }
 
 // What a test finds: nothing, or the first fault.
-#[derive(Drop)]
+#[derive(Clone, Copy)]
 pub enum Finding {
     Clean,
     Found(Fault),
 }
 
 // What judging a part of the input comes to: it passes, or the first refusal.
-#[derive(Drop)]
+#[derive(Clone, Copy)]
 pub enum Ruling {
     Passed,
     Refused(Refusal),
 }
 
 // Who refused: the reader of a file, or who judges tables.
-#[derive(Drop)]
+#[derive(Clone, Copy)]
 pub enum Refuser {
     Reading,
     Judging,
 }
 
 // What a fault of tables names: an element, a vertex, or a pair of elements.
-#[derive(Drop)]
+#[derive(Clone, Copy)]
 enum Subject {
     Element,
     Vertex,
@@ -62,7 +62,7 @@ enum Subject {
 }
 
 // Where a refusal lies: the file or a table as a whole, a line, a vertex, an element, or two elements, the later one first.
-#[derive(Drop)]
+#[derive(Clone, Copy)]
 pub enum Spot {
     Whole,
     Line(usize),

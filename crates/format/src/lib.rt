@@ -5,7 +5,7 @@
 use faults::Fault;
 
 // The mark of a line, by the page's name; `Unknown` is any other, and that of a line too short for one.
-#[derive(Drop)]
+#[derive(Clone, Copy)]
 pub enum Mark {
     Vx,
     Te,
@@ -18,7 +18,7 @@ pub enum Mark {
 }
 
 // What a line is, by its mark.
-#[derive(Drop)]
+#[derive(Clone, Copy)]
 pub enum Role {
     VertexLine,
     ElementLine,
@@ -27,28 +27,28 @@ pub enum Role {
 }
 
 // A run of digits: the number that it spells, or that it is not of the stated form.
-#[derive(Drop)]
+#[derive(Clone, Copy)]
 pub enum Spelt {
     Of(u32),
     Not,
 }
 
 // A coordinate field: thousandths of a millimetre, or what is wrong with it.
-#[derive(Drop)]
+#[derive(Clone, Copy)]
 pub enum Coordinate {
     Thousandths(i32),
     Wrong(Fault),
 }
 
 // What a field comes to, or several: nothing wrong, or the first fault.
-#[derive(Drop)]
+#[derive(Clone, Copy)]
 pub enum Judged {
     Passed,
     Failed(Fault),
 }
 
 // What the lines so far tell about the next one: how many vertices and elements they gave, and whether EN was among them.
-#[derive(Drop)]
+#[derive(Clone, Copy)]
 pub struct ReaderState {
     pub vertices: usize,
     pub elements: usize,
@@ -56,14 +56,14 @@ pub struct ReaderState {
 }
 
 // How many numbers the two lent tables hold.
-#[derive(Drop)]
+#[derive(Clone, Copy)]
 pub struct Rooms {
     pub vertices: usize,
     pub elements: usize,
 }
 
 // What a line comes to: the state after it, or its fault.
-#[derive(Drop)]
+#[derive(Clone, Copy)]
 pub enum Line {
     Next(ReaderState),
     No(Fault),

@@ -10,7 +10,7 @@ mod misfits;
 mod pairs;
 
 // What judging a table answers.
-#[derive(Drop)]
+#[derive(Clone, Copy)]
 pub enum JudgeAnswer {
     Done,
     Refused(Refusal),

@@ -10,13 +10,13 @@ use limits::{ELEMENT_LIMIT, TETRAHEDRON_LIMIT};
 mod storing;
 
 // What an accepted cut reports.
-#[derive(Drop)]
+#[derive(Clone, Copy)]
 pub struct CutCounts {
     pub tetrahedra: usize,
 }
 
 // What cutting a table answers.
-#[derive(Drop)]
+#[derive(Clone, Copy)]
 pub enum CutAnswer {
     Done(CutCounts),
     Refused(Refusal),

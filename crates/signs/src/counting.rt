@@ -10,7 +10,7 @@ use vertices::point_at;
 use volume::VolumeAnswer;
 
 // The sign of a tetrahedron's sixfold volume.
-#[derive(Drop)]
+#[derive(Clone, Copy)]
 pub enum Sign {
     Positive,
     Zero,
@@ -18,7 +18,7 @@ pub enum Sign {
 }
 
 // How many tetrahedra have each sign.
-#[derive(Drop)]
+#[derive(Clone, Copy)]
 pub struct Tally {
     pub positive: usize,
     pub zero: usize,

@@ -11,7 +11,7 @@ use vertices::judge_vertices;
 mod counting;
 
 // What an accepted sign report counts.
-#[derive(Drop)]
+#[derive(Clone, Copy)]
 pub struct SignCounts {
     pub positive: usize,
     pub zero: usize,
@@ -20,7 +20,7 @@ pub struct SignCounts {
 }
 
 // What a sign report answers.
-#[derive(Drop)]
+#[derive(Clone, Copy)]
 pub enum SignAnswer {
     Done(SignCounts),
     Refused(Refusal),

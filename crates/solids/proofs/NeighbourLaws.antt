@@ -100,10 +100,10 @@ module _ (e x : Element) (he : T (proper e)) (hx : T (proper x)) (f : T (fits e 
     where
       face : Joint e x → Cycle (back_face F) G
       face J =
-          let a = is-inside e he F J.mine m_f J.in_mine (λ v k. set_there (common e x) (of_face J.mine) J.Has-All v (both v k)) in
+          let a = is-inside e he F J.mine m_f J.in_mine (λ v k. set_there (common e x) (of_face J.mine) J.has_all v (both v k)) in
           let b = is-inside x hx G J.theirs m_g J.in_theirs λ v k.
           subst T (sym (holds_across v J.mine J.theirs J.reversed))
-          (set_there (common e x) (of_face J.mine) J.Has-All v (both v (set_back (of_face F) (of_face G) same v k))) in
+          (set_there (common e x) (of_face J.mine) J.has_all v (both v (set_back (of_face F) (of_face G) same v k))) in
           subst (λ (H : Face ℕ). Cycle (back_face H) G) a (subst (Cycle (back_face J.mine)) b J.reversed)
 
       go : T (leb (length (common e x)) 1) ⊎ (T (has_edge (common e x) e && has_edge (common e x) x) ⊎ T (share_face (common e x) e x)) → Cycle (back_face F) G

@@ -103,7 +103,7 @@ module _ (s : Solid) (vs : List ℕ) (many : length vs ≡ corners s) (ρ : List
 
   -- the place where ρ says p
   from : (p : ℕ) → T (inside (corners s) p) → (q : ℕ) × T (inside (corners s) q) × (at ρ q ≡ p)
-  from p i = let k = place_of-at p ρ (L.Has-All p i) in (place_of p ρ, subst (λ (m : ℕ). T (inside m (place_of p ρ))) L.long k.1, k.0)
+  from p i = let k = place_of-at p ρ (L.has_all p i) in (place_of p ρ, subst (λ (m : ℕ). T (inside m (place_of p ρ))) L.long k.1, k.0)
 
   -- proper, exactly if it was
   proper_home : Proper s (map (at vs) ρ) → Proper s vs
@@ -139,7 +139,7 @@ module _ (s : Solid) (vs : List ℕ) (many : length vs ≡ corners s) (ρ : List
   corner_there v h =
       let k = place_of-at v vs h in
       subst (λ (w : ℕ). T (among w (map (at vs) ρ))) k.0
-      (map-among (at vs) ρ (place_of v vs) (L.Has-All (place_of v vs) (subst (λ (m : ℕ). T (inside m (place_of v vs))) many k.1)))
+      (map-among (at vs) ρ (place_of v vs) (L.has_all (place_of v vs) (subst (λ (m : ℕ). T (inside m (place_of v vs))) many k.1)))
 
   -- the same cycles
   composed : (F : Face ℕ) → on_face (λ p. at vs (at ρ p)) F ≡ on_face (at vs) (on_face (at ρ) F)

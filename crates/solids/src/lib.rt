@@ -3,15 +3,15 @@
 #![tactic(auto)]
 
 // A local corner number, from 1; 0 is none.
-#[derive(Drop)]
+#[derive(Clone, Copy)]
 pub struct Place(pub u8);
 
 // A global vertex number, from 1.
-#[derive(Drop)]
+#[derive(Clone, Copy)]
 pub struct Vertex(pub u16);
 
 // The page's four solids.
-#[derive(Drop)]
+#[derive(Clone, Copy)]
 pub enum Solid {
     Tetrahedron,
     Pyramid,

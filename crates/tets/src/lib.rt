@@ -9,7 +9,7 @@ use faces::{lowest_of_four, lowest_of_three};
 use solids::Vertex;
 
 // A tetrahedron in vertex numbers.
-#[derive(Drop)]
+#[derive(Clone, Copy)]
 pub struct Tet(pub Vertex, pub Vertex, pub Vertex, pub Vertex);
 
 // The base in which the four numbers of a tetrahedron are the digits of its key.

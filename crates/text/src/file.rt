@@ -16,7 +16,7 @@ use limits::{ELEMENT_NUMBERS, FILE_LIMIT, LINE_END, VERTEX_NUMBERS};
 use numbers::scan::{find, from, until};
 
 // What the line at the front of a text comes to: the state after it and how many bytes it takes with its byte 10, or its fault.
-#[derive(Drop)]
+#[derive(Clone, Copy)]
 pub enum Step {
     Next(ReaderState, usize),
     No(Fault),

@@ -15,14 +15,14 @@ use format::Rooms;
 use limits::{ELEMENT_NUMBERS, ELEMENT_WIDTH, VERTEX_NUMBERS, VERTEX_WIDTH};
 
 // How many vertices and elements the file gave.
-#[derive(Drop)]
+#[derive(Clone, Copy)]
 pub struct ReadCounts {
     pub vertices: usize,
     pub elements: usize,
 }
 
 // What reading says of a file.
-#[derive(Drop)]
+#[derive(Clone, Copy)]
 pub enum ReadAnswer {
     Done(ReadCounts),
     Refused(Refusal),

@@ -18,14 +18,14 @@ use limits::{
 use numbers::digit;
 
 // A number and the place behind its bytes; place 0 where there is none.
-#[derive(Drop)]
+#[derive(Clone, Copy)]
 pub struct Run {
     pub value: u32,
     pub next: usize,
 }
 
 // A coordinate and the place behind it and its end; place 0 where there is none.
-#[derive(Drop)]
+#[derive(Clone, Copy)]
 pub struct Signed {
     pub value: i32,
     pub next: usize,

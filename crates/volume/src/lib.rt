@@ -12,7 +12,7 @@ use faults::{Fault, Refusal};
 use limits::COORDINATE_LIMIT;
 
 // A vertex, in thousandths of a millimetre.
-#[derive(Drop)]
+#[derive(Clone, Copy)]
 pub struct Point {
     pub x: i32,
     pub y: i32,
@@ -20,7 +20,7 @@ pub struct Point {
 }
 
 // A row of the determinant: a point less another.
-#[derive(Drop)]
+#[derive(Clone, Copy)]
 struct Row {
     x: i64,
     y: i64,
@@ -28,7 +28,7 @@ struct Row {
 }
 
 // The sixfold volume, or why it is refused.
-#[derive(Drop)]
+#[derive(Clone, Copy)]
 pub enum VolumeAnswer {
     Done(i64),
     Refused(Refusal),

@@ -19,7 +19,7 @@ use records::judge_record;
 use volume::{Point, point_in_range};
 
 // What a writer says: the length of what it wrote, or a refusal.
-#[derive(Drop)]
+#[derive(Clone, Copy)]
 pub enum WriteAnswer {
     Done(usize),
     Refused(Refusal),
