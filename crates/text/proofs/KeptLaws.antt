@@ -25,7 +25,7 @@ use Rattle.format.specs.declared.Line.TheVariants.{Next}
 use Rattle.format.proofs.FileLaws.{line_taken, file-end}
 use Rattle.format.proofs.FileRecordLaws.{vertex_place, element_place, vertex_grows, element_grows, kept-front, records_none, records_line}
 use Rattle.text.specs.Reading.{verdict_of}
-use Rattle.text.specs.ReadingLoops.{Few, Own, Ready, StoredLine, LineTaken, LineRead, FileRead}
+use Rattle.text.specs.ReadingLoops.{Own, Ready, StoredLine, LineTaken, LineRead, FileRead}
 use Rattle.text.specs.declared.ReadAnswer.{ReadAnswer}
 use Rattle.text.specs.declared.ReadAnswer.TheVariants.{Done, Refused}
 use Rattle.text.specs.declared.file.Step.{Step}
@@ -53,9 +53,6 @@ unfolding after
 line_limits rooms state l next e k =
     let t = line_taken rooms state l next true e in
     rw t.same (role_limits state (role_of (mark_of l)) t.few k)
-
-pub ready_few : {t : List ℕ} {state : ReaderState} {vertices : List ℤ} {elements : List ℕ} → Ready t state vertices elements → Few state
-ready_few r = record { few = omega (arith, r.few_vertices, r.few_elements) }
 
 -- ---- a line
 
@@ -140,9 +137,6 @@ module _ (file : List ℕ) (rooms : Rooms) where
   }
 
   module _ {vertices : List ℤ} {elements : List ℕ} {t : List ℕ} {state : ReaderState} {n : ℕ} (g : Reading file rooms vertices elements t state n) where
-    pub reading_ready : 0 < length t → Ready t state vertices elements
-    reading_ready h = record { some = h; few_vertices = g.limits.few_vertices; few_elements = g.limits.few_elements; own = g.own }
-
     -- a line was taken
     pub reading_more : (next : ReaderState) (m : ℕ) (vertices' : List ℤ) (elements' u : List ℕ)
         → LineTaken t rooms state vertices elements next m vertices' elements' → u ≡ drop m t
