@@ -62,9 +62,6 @@ module _ {v n : ℕ} {t keys sizes keys' sizes' : List ℕ} where
     tets_told = ap (map keyed) (keys_first b) ∙ keys_tell v n t b.elements b.accepts
 
     -- all the keys are there
-    pub keys_whole : tetrahedron_limit ≤ length keys → length keys ≡ length keys'
-    keys_whole l = sym (keys_kept b l)
-
     pub keys_enough : tetrahedron_limit ≤ length keys → count ≤ length keys'
     keys_enough l = omega (arith, keys_few b, keys_kept b l)
 
