@@ -1,6 +1,6 @@
 -- `signs::sign_report` meets its contract: refused as judged, or ROOM or RANGE of the vertex table, or the four counts.
 -- Assumes nothing.
-use Rattle.std.proofs.Common.{◌≡◌, ◌∙◌, sym, ap, ℕ, ◌≤◌, List, length, arith}
+use Rattle.std.proofs.Common.{◌∙◌, sym, ap, ℕ, ◌≤◌, length, arith}
 use lib.ListN.{replicate, length-replicate}
 use Rattle.limits.specs.Limits.{element_limit, tetrahedron_limit}
 use Rattle.blocks.proofs.Theorems.{blocks_refused, blocks_cut}

@@ -36,7 +36,7 @@ loop-k-init c = start c.args.out.now c.args.keys.now c.args.n
 pub loop-k-preserved : goal.loop-k-preserved
 loop-k-preserved c =
     let a = c.args in
-    step a.out.now a.keys.now a.n c.requires.n_in_bounds c.requires.n_in_bounds_2 c.loop-k.invariant c.loop-k-test.true c.tet_of.ensures c.put_tet.ensures
+    step a.out.now a.keys.now a.n c.requires.n_in_bounds c.requires.room c.loop-k.invariant c.loop-k-test.true c.tet_of.ensures c.put_tet.ensures
 
 pub returns : goal.returns
 returns c = let a = c.args in end a.out.now a.keys.now a.n c.loop-k.invariant c.loop-k-test.false

@@ -1,5 +1,5 @@
 -- One block more is counted; it lies among the keys, and no sum is above the limit. Assumes nothing.
-use Rattle.std.proofs.Common.{◌≡◌, ◌∙◌, refl, sym, ap, subst, ℕ, ◌+◌, ◌*◌, ◌-◌, ◌≤◌, ◌<◌, List, [], ◌∷◌, ◌++◌, map, length, take, drop, get_or, ℤ, T, arith}
+use Rattle.std.proofs.Common.{◌≡◌, ◌∙◌, refl, sym, ap, subst, ℕ, ◌+◌, ◌-◌, ◌≤◌, ◌<◌, List, [], ◌∷◌, ◌++◌, map, length, take, drop, get_or, ℤ, T, arith}
 use lib.ListN.{length-map, length-drop}
 use lib.Seq.{length-take-le, get_or-take, get_or-drop}
 use Rattle.tets.specs.Tets.{keyed}

@@ -1,5 +1,5 @@
 -- `signs::counting::volume_at` meets its contract: the sixfold volume of four points of the table, none of which is refused. Assumes nothing.
-use Rattle.std.proofs.Common.{◌≡◌, ◌∙◌, refl, ap, rules}
+use Rattle.std.proofs.Common.{◌∙◌, refl, ap, rules}
 use mir.Syntax.{w64}
 use mir.Facts.{to_z-of_z}
 use Rattle.signs.proofs.VolumeLaws.{volume_from, never_refused, volume_done}
