@@ -10,8 +10,8 @@ returns c =
     let a = c.args in
     let r = c.requires in
     let w = c.write_end in
-    let short = end_line_short a.vertices a.tetrahedra r.vertices_le_vertex_limit r.tetrahedra_le_tetrahedron_limit in
+    let short = end_line_short a.vertices a.tetrahedra r.few_vertices r.few_tetrahedra in
     let written =
-    end-written w.result a.out.now _ a.vertices a.tetrahedra r.vertices_le_vertex_limit r.tetrahedra_le_tetrahedron_limit w.ensures
-    (omega (arith, r.longest_end_in_bounds)) in
+    end-written w.result a.out.now _ a.vertices a.tetrahedra r.few_vertices r.few_tetrahedra w.ensures
+    (omega (arith, r.room)) in
     put_written longest_end written short c.length_in.ensures

@@ -6,5 +6,5 @@ pub returns : goal.returns
 returns c =
     let a = c.args in
     let r = c.requires in
-    mesh_put a.vertices.now a.vertex_count a.tetrahedra.now a.count r.good_vertices.few r.good_tetrahedra.few a.out.now r.longest_output_in_bounds
+    mesh_put a.vertices.now a.vertex_count a.tetrahedra.now a.count r.good_vertices.few r.good_tetrahedra.few a.out.now r.room
     c.put_vertices-first.ensures c.put_tetrahedra-second.ensures c.put_end-third.ensures

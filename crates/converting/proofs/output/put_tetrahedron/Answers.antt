@@ -7,5 +7,5 @@ pub returns : goal.returns
 unfolding tetrahedron_record
 returns c =
     let r = c.requires in
-    tetrahedron_put c.args.tetrahedra.now c.args.k r.good_tetrahedra c.args.out.now c.tetrahedron_record-record.ensures r.longest_tetrahedron_in_bounds
+    tetrahedron_put c.args.tetrahedra.now c.args.k r.good_tetrahedra c.args.out.now c.tetrahedron_record-record.ensures r.room
     c.write_element.ensures c.length_in.ensures

@@ -15,4 +15,4 @@ returns c =
     (to_z-of_z {w = w32} {z = get_or t (3 * k) (pos 0)} (search rules))
     (to_z-of_z {w = w32} {z = get_or t (3 * k + 1) (pos 0)} (search rules))
     (to_z-of_z {w = w32} {z = get_or t (3 * k + 2) (pos 0)} (search rules))
-    r.longest_vertex_in_bounds c.write_vertex.ensures c.length_in.ensures
+    r.room c.write_vertex.ensures c.length_in.ensures

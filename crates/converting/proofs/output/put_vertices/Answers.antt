@@ -6,7 +6,7 @@ use Rattle.converting.proofs.GoodTableLaws.{vertices_below}
 use Rattle.converting.proofs.output.put_vertices.Goals as goal
 
 pub loop-k-init : goal.loop-k-init
-loop-k-init c = lines_none _ longest_vertex _ c.args.out.now c.requires.count_in_bounds
+loop-k-init c = lines_none _ longest_vertex _ c.args.out.now c.requires.room
 
 pub slice_bounds-put_vertex-start : goal.slice_bounds-put_vertex-start
 slice_bounds-put_vertex-start c = lines_at _ _ _ _ c.loop-k.invariant
@@ -15,7 +15,7 @@ pub put_vertex-more-requires : goal.put_vertex-more-requires
 put_vertex-more-requires c =
     let i = c.loop-k.invariant in
     let h = c.loop-k-test.true in
-    record { good_vertices = vertices_below c.requires.good_vertices h; longest_vertex_in_bounds = lines_room _ _ _ _ i h }
+    record { good_vertices = vertices_below c.requires.good_vertices h; room = lines_room _ _ _ _ i h }
 
 pub overflow_add-at : goal.overflow_add-at
 overflow_add-at c =
