@@ -9,6 +9,6 @@ returns c =
     let entry = c.convert-converted.ensures in
     let size : length c.args.answer.now ≡ 4 = search rules in
     record {
-      answered = answered 1 c.of_convert.result c.args.answer.now c.of_convert.ensures entry.left.answer size c.tell.ensures.value c.tell.ensures.answer_after;
+      answered = answered 1 c.of_convert.result c.args.answer.now c.of_convert.ensures entry.left.answer size c.tell.ensures.number c.tell.ensures.array;
       left = entry.left.output;
     }

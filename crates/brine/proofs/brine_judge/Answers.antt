@@ -8,4 +8,4 @@ pub returns : goal.returns
 returns c =
     let entry = c.judge_mesh-judged.ensures in
     let size : length c.args.answer.now ≡ 3 = search rules in
-    answered 0 c.of_judge.result c.args.answer.now c.of_judge.ensures entry.answer size c.tell.ensures.value c.tell.ensures.answer_after
+    answered 0 c.of_judge.result c.args.answer.now c.of_judge.ensures entry.answer size c.tell.ensures.number c.tell.ensures.array

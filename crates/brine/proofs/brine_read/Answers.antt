@@ -9,6 +9,6 @@ returns c =
     let entry = c.read_mesh-read.ensures in
     let size : length c.args.answer.now ≡ 5 = search rules in
     record {
-      answered = answered 2 c.of_read.result c.args.answer.now c.of_read.ensures entry.answer size c.tell.ensures.value c.tell.ensures.answer_after;
+      answered = answered 2 c.of_read.result c.args.answer.now c.of_read.ensures entry.answer size c.tell.ensures.number c.tell.ensures.array;
       left = λ i. (entry.vertex_table i, entry.element_table i);
     }

@@ -8,4 +8,4 @@ pub returns : goal.returns
 returns c =
     let entry = c.sign_report-signs.ensures in
     let size : length c.args.answer.now ≡ 7 = search rules in
-    answered 4 c.of_signs.result c.args.answer.now c.of_signs.ensures entry.answer size c.tell.ensures.value c.tell.ensures.answer_after
+    answered 4 c.of_signs.result c.args.answer.now c.of_signs.ensures entry.answer size c.tell.ensures.number c.tell.ensures.array

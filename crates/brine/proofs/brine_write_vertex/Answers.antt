@@ -11,6 +11,6 @@ returns c =
     let entry = rw (to_z-of_z r.x, to_z-of_z r.y, to_z-of_z r.z) at c.write_vertex-written.ensures in
     let size : length c.args.answer.now ≡ 4 = search rules in
     record {
-      answered = answered 1 c.of_write.result c.args.answer.now c.of_write.ensures entry.answer size c.tell.ensures.value c.tell.ensures.answer_after;
+      answered = answered 1 c.of_write.result c.args.answer.now c.of_write.ensures entry.answer size c.tell.ensures.number c.tell.ensures.array;
       left = entry.buffer;
     }

@@ -13,5 +13,5 @@ loop-i-init c =
 pub loop-i-preserved : goal.loop-i-preserved
 loop-i-preserved c = copied_one c.loop-i.invariant c.loop-i-test.true
 
-pub returns-clause-answer_after : goal.returns-clause-answer_after
-returns-clause-answer_after c = copied_all c.loop-i.invariant c.loop-i-test.false
+pub returns-clause-array : goal.returns-clause-array
+returns-clause-array c = copied_all c.loop-i.invariant c.loop-i-test.false
