@@ -74,13 +74,7 @@ pub fn brine_signs(
 }
 
 // Writes the line of a vertex; the value is its length.
-pub fn brine_write_vertex(
-    x: i32,
-    y: i32,
-    z: i32,
-    buffer: &mut [u8],
-    answer: &mut [u64; 4],
-) -> u32
+pub fn brine_write_vertex(x: i32, y: i32, z: i32, buffer: &mut [u8], answer: &mut [u64; 4]) -> u32
     ensures { TextFront (write_vertex_verdict x y z (length buffer.old)) buffer.old result answer.new buffer.new }
 {
     let written = write_vertex(x, y, z, buffer);

@@ -116,8 +116,8 @@ pub fn of_convert(answer: ConvertAnswer) -> Told
 // Writes the whole array, whatever stood there, and gives the number to return.
 pub fn tell(told: Told, answer: &mut [u64]) -> u32
     requires { length answer.old ≤ longest }
-    ensures value { result ≡ told.number }
-    ensures answer_after { answer.new ≡ take (length answer.old) told.numbers }
+    ensures number { result ≡ told.number }
+    ensures array { answer.new ≡ take (length answer.old) told.numbers }
 {
     let numbers = told.numbers;
     let mut i = 0;
