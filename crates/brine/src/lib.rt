@@ -20,8 +20,7 @@ use text::read_mesh;
 use writing::{write_element, write_end, write_vertex};
 
 // Reads a file into two tables, three numbers a vertex and nine an element; the values are how many vertices and elements.
-#[unsafe(no_mangle)]
-pub extern "C" fn brine_read(
+pub fn brine_read(
     file: &[u8],
     vertices: &mut [i32],
     elements: &mut [u16],
@@ -34,8 +33,7 @@ pub extern "C" fn brine_read(
 }
 
 // Judges a table of elements; no values.
-#[unsafe(no_mangle)]
-pub extern "C" fn brine_judge(
+pub fn brine_judge(
     vertex_count: usize,
     element_count: usize,
     elements: &[u16],
@@ -48,8 +46,7 @@ pub extern "C" fn brine_judge(
 }
 
 // Cuts a table of elements into tetrahedra, four numbers each; the value is how many.
-#[unsafe(no_mangle)]
-pub extern "C" fn brine_cut(
+pub fn brine_cut(
     vertex_count: usize,
     element_count: usize,
     elements: &[u16],
@@ -63,8 +60,7 @@ pub extern "C" fn brine_cut(
 }
 
 // Counts the signs of the cut; the values are positive, zero and negative tetrahedra, and unsound elements.
-#[unsafe(no_mangle)]
-pub extern "C" fn brine_signs(
+pub fn brine_signs(
     vertex_count: usize,
     element_count: usize,
     elements: &[u16],
@@ -78,8 +74,7 @@ pub extern "C" fn brine_signs(
 }
 
 // Writes the line of a vertex; the value is its length.
-#[unsafe(no_mangle)]
-pub extern "C" fn brine_write_vertex(
+pub fn brine_write_vertex(
     x: i32,
     y: i32,
     z: i32,
@@ -93,8 +88,7 @@ pub extern "C" fn brine_write_vertex(
 }
 
 // Writes the line of an element; the value is its length.
-#[unsafe(no_mangle)]
-pub extern "C" fn brine_write_element(
+pub fn brine_write_element(
     record: &[u16; ELEMENT_WIDTH],
     buffer: &mut [u8],
     answer: &mut [u64; 4],
@@ -107,8 +101,7 @@ pub extern "C" fn brine_write_element(
 }
 
 // Writes EN with the two counts; the value is its length.
-#[unsafe(no_mangle)]
-pub extern "C" fn brine_write_end(
+pub fn brine_write_end(
     vertices: usize,
     elements: usize,
     buffer: &mut [u8],
@@ -121,8 +114,7 @@ pub extern "C" fn brine_write_end(
 }
 
 // Converts a file into the cut mesh as text; the value is its length.
-#[unsafe(no_mangle)]
-pub extern "C" fn brine_convert(input: &[u8], output: &mut [u8], answer: &mut [u64; 4]) -> u32
+pub fn brine_convert(input: &[u8], output: &mut [u8], answer: &mut [u64; 4]) -> u32
     ensures { TextFront (conversion_into (length output.old) input.now) output.old result answer.new output.new }
 {
     let converted = convert(input, output);

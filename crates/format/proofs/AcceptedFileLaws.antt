@@ -10,7 +10,6 @@ use borrow.Author.Tests.{ltb-false, leb-false}
 use Rattle.limits.specs.Limits.{file_limit, vertex_limit, element_limit}
 use Rattle.laws.specs.Pieces.{Pieces, rest, piece}
 use Rattle.faults.specs.Refusals.{accepted}
-use Rattle.faults.specs.declared.Fault.TheVariants as fault
 use Rattle.format.specs.Line.{mark_of, role_of, too_many, no_room, after_role, after}
 use Rattle.format.specs.File.{start, lines_of, file_verdict}
 use Rattle.format.specs.Records.{vertex_records, element_records, records_from}

@@ -16,6 +16,7 @@ use limits::{
 };
 
 // The digit that a byte is.
+#[tactic(auto, unfolding(format::specs::Number::digit_of))]
 pub fn digit(x: u8) -> Spelt
     ensures { result ≡ digit_of x }
 {
@@ -48,6 +49,7 @@ fn digits(t: &[u8]) -> Spelt
 }
 
 // 0, or one to k digits not starting with 0.
+#[tactic(auto, unfolding(format::specs::Number::whole))]
 fn whole(t: &[u8], k: usize) -> Spelt
     requires { k ≤ whole_digits }
     ensures { result ≡ whole k t.now }
@@ -69,6 +71,7 @@ fn whole(t: &[u8], k: usize) -> Spelt
 }
 
 // One to three digits after the point, in thousandths.
+#[tactic(auto, unfolding(format::specs::Number::decimals))]
 fn decimals(t: &[u8]) -> Spelt
     ensures { result ≡ decimals t.now }
 {
@@ -94,6 +97,7 @@ fn decimals(t: &[u8]) -> Spelt
 }
 
 // Whole millimetres and thousandths as one number, within the limits.
+#[tactic(auto, unfolding(format::specs::Number::millimetres))]
 fn millimetres(neg: bool, w: Spelt, f: Spelt) -> Coordinate
     ensures { result ≡ millimetres neg w f }
 {
@@ -117,6 +121,7 @@ fn millimetres(neg: bool, w: Spelt, f: Spelt) -> Coordinate
 }
 
 // What stands after the minus of a coordinate, or where it has none.
+#[tactic(auto, unfolding(format::specs::Number::unsigned))]
 fn unsigned(neg: bool, t: &[u8]) -> Coordinate
     ensures { result ≡ unsigned neg (split point t.now) }
 {
@@ -133,6 +138,7 @@ fn unsigned(neg: bool, t: &[u8]) -> Coordinate
 }
 
 // A coordinate field: COMMA, then NUMBER, then RANGE, or its thousandths.
+#[tactic(auto, unfolding(format::specs::Number::coordinate_of))]
 pub fn coordinate(t: &[u8]) -> Coordinate
     ensures { result ≡ coordinate_of t.now }
 {
@@ -149,6 +155,7 @@ pub fn coordinate(t: &[u8]) -> Coordinate
 }
 
 // The thousandths of a coordinate field, 0 where it is none.
+#[tactic(auto, unfolding(format::specs::Number::thousandths_of))]
 pub fn thousandths(t: &[u8]) -> i32
     ensures { result ≡ thousandths_of t.now }
 {
@@ -159,6 +166,7 @@ pub fn thousandths(t: &[u8]) -> i32
 }
 
 // A vertex number or count.
+#[tactic(auto, unfolding(format::specs::Number::number_of))]
 pub fn number(t: &[u8]) -> Spelt
     ensures { result ≡ number_of t.now }
 {
@@ -166,6 +174,7 @@ pub fn number(t: &[u8]) -> Spelt
 }
 
 // A vertex number or count, 0 where it is none.
+#[tactic(auto, unfolding(format::specs::Number::value_of), using(format::proofs::NumberLaws::number_small))]
 pub fn value(t: &[u8]) -> u16
     ensures { result ≡ value_of t.now }
 {

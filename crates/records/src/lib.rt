@@ -11,6 +11,7 @@ use limits::{CORNER_WIDTH, ELEMENT_WIDTH};
 use solids::{Place, Solid, Vertex};
 
 // The solid of a kind; any other number is refused before its solid is asked for.
+#[tactic(auto, unfolding(crate::specs::Record::solid_of))]
 pub fn solid_of(kind: u16) -> Solid
     ensures { result ≡ solid_of kind }
 {
@@ -27,6 +28,7 @@ pub fn solid_of(kind: u16) -> Solid
 }
 
 // The kind, which is the corner count; 0 where there is no record.
+#[tactic(auto, unfolding(crate::specs::Record::kind_of))]
 pub fn kind_of(element: &[u16]) -> u16
     ensures { result ≡ kind_of element.now }
 {
@@ -37,6 +39,7 @@ pub fn kind_of(element: &[u16]) -> u16
 }
 
 // The vertex number at a place; 0 where there is none.
+#[tactic(auto, using(crate::proofs::RecordLaws::corner_none, crate::proofs::RecordLaws::corner_above, crate::proofs::RecordLaws::corner_behind, crate::proofs::RecordLaws::corner_field))]
 pub fn corner(element: &[u16], place: Place) -> Vertex
     ensures { result.0 ≡ corner_at element.now place.0 }
 {
@@ -75,6 +78,7 @@ fn behind(numbers: &[u16], n: usize) -> &[u16]
 }
 
 // The vertex numbers of a record's corners.
+#[tactic(auto, unfolding(crate::specs::Record::used_of, crate::specs::Record::numbers_of))]
 pub fn corners_of(element: &[u16]) -> &[u16]
     ensures { result.now ≡ used_of element.now }
 {
@@ -83,6 +87,7 @@ pub fn corners_of(element: &[u16]) -> &[u16]
 }
 
 // How many whole records a table holds.
+#[tactic(auto, unfolding(crate::specs::Record::record_count))]
 pub fn record_count(table: &[u16]) -> usize
     ensures { result ≡ record_count table.now }
 {
@@ -90,6 +95,7 @@ pub fn record_count(table: &[u16]) -> usize
 }
 
 // The record k of a table, from 0; where the table ends before it does, what there is of it.
+#[tactic(auto, using(crate::proofs::RecordLaws::record_part, crate::proofs::RecordLaws::record_short, crate::proofs::RecordLaws::record_beyond))]
 pub fn record_at(table: &[u16], k: usize) -> &[u16]
     ensures { result.now ≡ record_at table.now k }
 {
@@ -113,6 +119,7 @@ pub fn tetrahedron_record(a: Vertex, b: Vertex, c: Vertex, d: Vertex) -> [u16; E
 }
 
 // A kind is 4, 5, 6 or 8.
+#[tactic(auto, unfolding(crate::specs::Record::is_kind))]
 fn is_kind(kind: u16) -> bool
     ensures { result ≡ is_kind kind }
 {

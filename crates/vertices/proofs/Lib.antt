@@ -1,3 +1,4 @@
 -- What is proved of the vertex table.
 pub mod VertexLaws
 pub mod Theorems
+pub mod BadPointLaws

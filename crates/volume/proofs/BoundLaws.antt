@@ -8,10 +8,9 @@ use Rattle.laws.specs.Sizes.{Within}
 use Rattle.laws.proofs.SizeLaws.{within_add, within_sub, within_mul}
 use Rattle.volume.specs.declared.Point.{Point}
 use Rattle.volume.specs.declared.Row.{Row}
-use Rattle.limits.specs.Limits.{coordinate_limit}
-use Rattle.volume.specs.Volume.{point_in_range, minus, minor, determinant, sixfold}
+use Rattle.volume.specs.Volume.{point_in_range, minus, minor, determinant}
 use Rattle.volume.specs.RowLoops.{reach, RowWithin}
-use Rattle.volume.proofs.RangeLaws.{Coordinates, coordinates, in_range_within}
+use Rattle.volume.proofs.RangeLaws.{coordinates, in_range_within}
 
 pub minus-within : (q p : Point) → point_in_range q ≡ true → point_in_range p ≡ true → RowWithin reach (minus q p)
 unfolding minus

@@ -2,7 +2,7 @@
 use mathlib.Core.Path.{◌≡◌, sym, ap, ◌∙◌}
 use native.Mathlib.Omega.{arith}
 use lib.IntN.{ℤ, neg_ℤ, ◌+ℤ◌, ◌-ℤ◌, ◌*ℤ◌, *ℤ_comm}
-use Rattle.laws.proofs.IntegerLaws.{Less, atom, less_add, less_sub, less_neg, less_same, mul_sub, mul_swap}
+use Rattle.laws.proofs.IntegerLaws.{atom, less_add, less_sub, less_neg, less_same, mul_sub, mul_swap}
 use Rattle.volume.specs.declared.Row.{Row}
 use Rattle.volume.specs.Volume.{minor, determinant}
 

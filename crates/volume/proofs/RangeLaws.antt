@@ -1,11 +1,11 @@
 -- What it says that a point is within the limits: of each coordinate, and of its size.
 -- Assumes nothing.
 use mathlib.Core.Path.{◌≡◌, refl, sym, ◌∙◌}
-use mathlib.Core.Bool.{Bool, true, false, not, ◌&&◌}
+use mathlib.Core.Bool.{Bool, true, false, ◌&&◌}
 use native.Mathlib.Omega.{arith}
 use lib.IntN.{ℤ, pos, negsuc, neg_ℤ}
 use lib.Signed.{le_z}
-use borrow.Author.Tests.{leb-true, not-true, not-false}
+use borrow.Author.Tests.{leb-true}
 use Rattle.laws.specs.Sizes.{Within}
 use Rattle.volume.specs.declared.Point.{Point}
 use Rattle.limits.specs.Limits.{coordinate_limit}
@@ -13,11 +13,11 @@ use Rattle.volume.specs.Volume.{in_range, point_in_range}
 
 -- a test that failed or passed, as a call gives it
 module _ {s t : Bool} where
-  pub failed : s ≡ t → not s ≡ true → t ≡ false
-  failed e h = sym e ∙ not-true s h
+  pub failed : s ≡ t → s ≡ false → t ≡ false
+  failed e h = sym e ∙ h
 
-  pub passed : s ≡ t → not s ≡ false → t ≡ true
-  passed e h = sym e ∙ not-false s h
+  pub passed : s ≡ t → s ≡ true → t ≡ true
+  passed e h = sym e ∙ h
 
 -- two tests that both passed
 both : (a b : Bool) → a && b ≡ true → (a ≡ true) × (b ≡ true)
