@@ -1,4 +1,3 @@
 -- What is proved of the program.
-pub mod InputLaws
 pub mod RespondingLaws
 pub mod Theorems

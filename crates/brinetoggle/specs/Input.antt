@@ -1,5 +1,5 @@
 -- What reading standard input can say: no contract can name the bytes that a read of the system gives.
-use Rattle.std.specs.Prelude.{ℕ, zero, suc, ◌+◌, ◌≤◌, ◌<◌, ℤ, pos, negsuc}
+use Rattle.std.specs.Prelude.{ℕ, zero, suc, ◌+◌, ◌≤◌, ◌<◌, Result, Ok, Err}
 use Rattle.limits.specs.Limits.{file_limit}
 use Rattle.brinetoggle.specs.declared.reading.Input.{Input}
 use Rattle.brinetoggle.specs.declared.reading.Input.TheVariants.{Got, Failed}
@@ -10,11 +10,11 @@ use Rattle.brinetoggle.specs.declared.reading.Turn.TheVariants.{More, Stop}
 abbrev pub input_room : ℕ
 input_room = file_limit + 1
 
--- what a read answers: how many bytes, 0 at the end of the input, a negative number where it failed
-abbrev pub turn_of : ℤ → ℕ → Turn
-turn_of (pos zero) at = Stop (Got at)
-turn_of (pos (suc n)) at = More (at + suc n)
-turn_of (negsuc n) at = Stop Failed
+-- what a read answers: how many bytes, 0 at the end of the input, or an error where it failed
+abbrev pub turn_of : {E : Type 0} → Result ℕ E → ℕ → Turn
+turn_of (Ok zero) at = Stop (Got at)
+turn_of (Ok (suc n)) at = More (at + suc n)
+turn_of (Err e) at = Stop Failed
 
 -- as many bytes as were read stand in the room
 abbrev pub InputWithin : ℕ → Input → Type 0

@@ -1,0 +1,9 @@
+-- `brinetoggle::reading::read_input` reads to the end or until the room is full: what was read is within it. Assumes nothing.
+use Rattle.std.proofs.Common.{◌-◌, ◌≤◌, length}
+use Rattle.brinetoggle.proofs.reading.read_input.Given as goal
+
+abbrev pub invariant-loop-at : goal.invariant-loop-at
+invariant-loop-at g l = l.at ≤ length l.room
+
+abbrev pub decreases-loop-at : goal.decreases-loop-at
+decreases-loop-at g l = length l.room - l.at
