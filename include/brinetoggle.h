@@ -1,5 +1,5 @@
 /* Brinetoggle for C: meshes of tetrahedra, pyramids, prisms and hexahedra, read, judged, cut into
-   tetrahedra and written, by the proved library target/staticlib/libbrine.a ('rt staticlib brine').
+   tetrahedra and written, by the proved library target/staticlib/libbrine.a ('tools/library.sh').
 
    Every function judges its own input, names the first fault, and on a refusal writes no number of
    the memory that it is lent; an accepted call writes its records only and leaves what stands behind them.

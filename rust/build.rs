@@ -1,4 +1,4 @@
-//! Links the proved library, which `rt staticlib brine` writes to target/staticlib in the repository's root.
+//! Links the proved library, which `tools/library.sh` writes to target/staticlib in the repository's root.
 
 use std::env;
 use std::path::PathBuf;
@@ -14,7 +14,7 @@ fn main() {
         println!("cargo::rustc-link-lib=static=brine");
     } else {
         println!(
-            "cargo::error=there is no {}: run `rt staticlib brine` in the repository's root, or name \
+            "cargo::error=there is no {}: run `tools/library.sh` in the repository's root, or name \
              the folder of libbrine.a in BRINE_LIBRARY_FOLDER",
             archive.display()
         );

@@ -1,10 +1,10 @@
 #!/usr/bin/env bash
 # The front for C: the header alone, in C and in C++ where there is a compiler; each function; both example programs.
-# It needs target/staticlib/libbrine.a ('rt staticlib brine'), or the folder of libbrine.a in BRINE_LIBRARY_FOLDER.
+# It needs target/staticlib/libbrine.a ('tools/library.sh'), or the folder of libbrine.a in BRINE_LIBRARY_FOLDER.
 set -euo pipefail
 cd "$(dirname "$0")/.."
 archive=${BRINE_LIBRARY_FOLDER:-target/staticlib}/libbrine.a
-[ -f "$archive" ] || { echo "there is no $archive: run 'rt staticlib brine'" >&2; exit 2; }
+[ -f "$archive" ] || { echo "there is no $archive: run 'tools/library.sh'" >&2; exit 2; }
 scratch=$(mktemp -d)
 trap 'rm -rf -- "$scratch"' EXIT
 warnings=(-Wall -Wextra -Wpedantic -Werror)

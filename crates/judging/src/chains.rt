@@ -22,6 +22,7 @@ fn chain_of(vertex: Vertex) -> usize
 }
 
 // Meets element i at one more vertex of element j: 1 marks that they met once, 2 that they fit, which is tested when they meet again.
+#[tactic(auto, using(crate::proofs::ChainLaws::met_first, crate::proofs::ChainLaws::met_known))]
 fn fits_again(table: &[u16], i: usize, j: usize, seen: &mut [u8; ELEMENT_LIMIT]) -> bool
     requires { Meeting table.now i j seen.old }
     ensures { Met table.now i j seen.old seen.new result }

@@ -10,6 +10,7 @@ use crate::{JudgeAnswer, misfits};
 use faults::{Fault, Refusal};
 
 // The refusal of the element with the number j, from 1, and its lowest misfit.
+#[tactic(auto, using(crate::proofs::TableVerdictLaws::pair_refused))]
 fn pair_refusal(table: &[u16], j: usize) -> Refusal
     requires { 0 < j }
     ensures { result ≡ refuse_pair j (misfit table.now (pred j)) }
@@ -23,6 +24,7 @@ fn pair_refusal(table: &[u16], j: usize) -> Refusal
 }
 
 // The pairs, by lowest j and then lowest i.
+#[tactic(auto, using(crate::proofs::TableVerdictLaws::none, crate::proofs::TableVerdictLaws::bad_pair, crate::proofs::TableVerdictLaws::all_fit))]
 pub fn judge_pairs(elements: &[u16], element_count: usize) -> JudgeAnswer
     requires { Numbered elements.now element_count }
     ensures { result ≡ answer_from (pairs_judged elements.now element_count (first_elements elements.now element_count)) }

@@ -1,9 +1,9 @@
 -- The verdict on the records of a table, test by test, in the page's order; what an acceptance tells, and that no refusal is JOIN.
 -- Assumes nothing.
-use mathlib.Core.Path.{◌≡◌, refl, sym, ap, ◌∙◌, subst}
+use mathlib.Core.Path.{◌≡◌, ap, ◌∙◌, subst}
 use mathlib.Core.Bool.{Bool, true, false, cond, not, ◌&&◌}
 use mathlib.Core.List.{List}
-use Prim.Native.Nat.{ℕ, ◌*◌, ◌-◌, ◌/◌, pred, ◌≤◌, ◌<◌}
+use Prim.Native.Nat.{ℕ, ◌*◌, ◌-◌, pred, ◌≤◌, ◌<◌}
 use native.Mathlib.Numerals.{sub-one}
 use native.Mathlib.Omega.{arith}
 use lib.Dec.{eqb, ltb}
@@ -56,9 +56,9 @@ module _ (v n : ℕ) (t : List ℕ) where
         unfolding record_count
         long = omega arith
 
-        pub bad_record_lem : (k : ℕ) → k ≡ bad_record v t n → 0 < k → records_judged v n t ≡ refused (refuse (fault_in (record_finding v (record_at t (pred k)))) k)
+        pub bad_record_refused : (k : ℕ) → k ≡ bad_record v t n → 0 < k → records_judged v n t ≡ refused (refuse (fault_in (record_finding v (record_at t (pred k)))) k)
         unfolding records_judged
-        bad_record_lem k e h =
+        bad_record_refused k e h =
             rw (le-ltb vertex_limit v a, le-ltb element_limit n b, le-ltb (length t) (element_width * n) long, ← e, lt-ltb 0 k h)
 
         pub all_clean : bad_record v t n ≡ 0 → records_judged v n t ≡ accepted (first_elements t n)

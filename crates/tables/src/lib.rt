@@ -45,6 +45,7 @@ fn fault_in(finding: Finding) -> Fault
 }
 
 // The refusal of the record with the number k, from 1.
+#[tactic(auto, using(crate::proofs::JudgedRecordLaws::record_refused))]
 fn record_refusal(table: &[u16], limit: usize, k: usize) -> Refusal
     requires { 0 < k }
     ensures { result ≡ refuse (fault_in (record_finding limit (record_at table.now (pred k)))) k }
@@ -70,6 +71,7 @@ fn refused_count(fault: Fault) -> Ruling
 }
 
 // Judges the records of a table: MANY for the counts, ROOM for its length, then each record in order.
+#[tactic(auto, using(crate::proofs::JudgedRecordLaws::too_many_vertices, crate::proofs::JudgedRecordLaws::too_many_elements, crate::proofs::JudgedRecordLaws::too_short, crate::proofs::JudgedRecordLaws::bad_record_refused, crate::proofs::JudgedRecordLaws::all_clean, crate::proofs::JudgedRecordLaws::none))]
 pub fn judge_records(vertex_count: usize, element_count: usize, elements: &[u16]) -> Ruling
     ensures { result ≡ ruled (records_judged vertex_count element_count elements.now) }
 {

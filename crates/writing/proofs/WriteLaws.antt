@@ -1,11 +1,15 @@
 -- Laws of the writers' common contract: a refusal that leaves the buffer alone, a text that is stored where there is room, and the verdict
 -- on a vertex, an element and EN by the tests that lead to it. Assumes nothing.
-use Prim.Native.Nat.{ℕ, ◌≤◌, ◌<◌}
-use mathlib.Core.Path.{◌≡◌, refl, sym}
+use Prim.Native.Nat.{ℕ, ◌+◌, ◌≤◌, ◌<◌}
+use native.Mathlib.Nat.{zero-add, le_refl}
+use native.Mathlib.Numerals.{add-one}
+use native.Mathlib.Omega.{arith}
+use mathlib.Core.Path.{◌≡◌, refl, sym, ap, ◌∙◌}
 use mathlib.Core.Bool.{true, false, ◌&&◌}
 use mathlib.Core.List.{List}
 use lib.IntN.{ℤ}
-use lib.ListN.{length, take}
+use lib.ListN.{length, take, get_or, set, length-set}
+use lib.Seq.{paste, paste-suc, take_all}
 use borrow.Author.Tests.{lt-ltb, le-ltb}
 use Rattle.limits.specs.Limits.{vertex_limit, tetrahedron_limit}
 use Rattle.laws.specs.Lent.{laid}
@@ -60,6 +64,37 @@ put_done {l} {old} {new} {r} h s = stored_done l old r (front_length h s) s (fro
 pub copied_done : {v : Verdict (List ℕ)} {l empty line old new : List ℕ} {n : ℕ} {a : WriteAnswer} → v ≡ in_room (length old) l → Put empty 0 l line n
     → length l ≤ length empty → WriteDone (in_room (length old) (take n line)) old a new → WriteDone v old a new
 copied_done e h s w = rw (e, ← front-line h s) w
+
+-- ---- a text stored byte by byte
+
+-- the first i of n bytes stand in front of what stood behind them
+pub record Stored (old : List ℕ) (n : ℕ) (bytes new : List ℕ) (i : ℕ) : Type 0 where
+  pub long : n ≤ length bytes
+  pub room : n ≤ length old
+  pub up : i ≤ n
+  pub size : length new ≡ length old
+  pub same : new ≡ paste old 0 bytes i
+
+-- a byte more
+pub stored_step : {old bytes new : List ℕ} {n i : ℕ} → Stored old n bytes new i → i < n → Stored old n bytes (set new i (get_or bytes i 0)) (i + 1)
+stored_step {old} {bytes} {new} {n} {i} h t =
+    record {
+      long = h.long;
+      room = h.room;
+      up = omega arith;
+      size = length-set new i (get_or bytes i 0) ∙ h.size;
+      same =
+          rw (h.same, add-one i)
+          (ap (λ (k : ℕ). set (paste old 0 bytes i) k (get_or bytes i 0)) (sym (zero-add i))
+          ∙ paste-suc old 0 bytes i 0 (omega (arith, h.room)) (omega (arith, h.long)));
+    }
+
+-- all bytes
+pub stored_whole : {old text new : List ℕ} {n i : ℕ} → Stored old n text new i → n ≤ i → n ≡ length text → new ≡ laid text old
+unfolding laid
+stored_whole {old} {text} {new} {n} {i} h l e =
+    let j : i ≡ length text = omega (arith, h.up) in
+    h.same ∙ rw (j, zero-add (length text), take_all (length text) text (le_refl (length text)))
 
 -- ---- the verdicts
 

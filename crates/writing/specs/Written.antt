@@ -1,6 +1,6 @@
 -- The written text: a line for each record, the written file, the verdicts of the record writers, and the line of a refusal.
 -- A line stands here without its byte 10 until it is closed.
-use Rattle.std.specs.Prelude.{ℕ, zero, suc, ◌+◌, ◌/◌, ◌%◌, Bool, true, false, cond, not, ◌&&◌, ◌||◌, List, [], ◌∷◌, ◌++◌, map, length, get_or, take, drop, eqb, leb, ltb, ℤ, pos, negsuc, nat_abs}
+use Rattle.std.specs.Prelude.{ℕ, zero, suc, ◌+◌, ◌/◌, ◌%◌, cond, not, ◌&&◌, ◌||◌, List, [], ◌∷◌, ◌++◌, map, length, get_or, take, drop, eqb, ltb, ℤ, pos, negsuc, nat_abs}
 use Rattle.limits.specs.Limits.{line_end, space, minus, point, digit0, vertex_limit, tetrahedron_limit, vertex_width, element_width}
 use Rattle.laws.specs.Words.{gather}
 use Rattle.faults.specs.Refusals.{Verdict, accepted, refused, refuse, refuse_if, number_of}
@@ -13,7 +13,7 @@ use Rattle.faults.specs.declared.Refusal.{Refusal}
 use Rattle.format.specs.Line.{mark_bytes, after}
 use Rattle.format.specs.File.{start}
 use Rattle.format.specs.declared.Mark.{Mark}
-use Rattle.format.specs.declared.Mark.TheVariants.{Vx, Te, Py, Pz, Pr, Hx, En, Unknown}
+use Rattle.format.specs.declared.Mark.TheVariants.{Vx, Te, Py, Pr, Hx, En, Unknown}
 use Rattle.format.specs.declared.ReaderState.{ReaderState}
 
 -- ---- numbers

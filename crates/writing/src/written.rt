@@ -18,6 +18,7 @@ use solids::Place;
 const LONGEST_NUMBER: usize = 20;
 
 // A byte.
+#[tactic(auto, using(crate::proofs::PutLaws::put_byte, crate::proofs::PutLaws::put_full))]
 fn push(line: &mut [u8], at: usize, x: u8) -> usize
     ensures { Put line.old at (x ∷ []) line.new result }
 {
@@ -36,6 +37,7 @@ fn digit(k: usize) -> u8
 }
 
 // A number of one digit.
+#[tactic(auto, using(crate::proofs::WrittenLaws::put_one_digit))]
 fn put_below_ten(line: &mut [u8], at: usize, k: usize) -> usize
     requires { k < 10 }
     ensures { Put line.old at (decimal k) line.new result }
@@ -142,6 +144,7 @@ fn put_two(line: &mut [u8], at: usize, a: u8, b: u8) -> usize
 }
 
 // The two bytes of a mark.
+#[tactic(auto, using(crate::proofs::PutLaws::put_none))]
 fn put_mark(line: &mut [u8], at: usize, mark: Mark) -> usize
     ensures { Put line.old at (mark_bytes mark) line.new result }
 {
@@ -158,6 +161,7 @@ fn put_mark(line: &mut [u8], at: usize, mark: Mark) -> usize
 }
 
 // The mark of a kind, never PZ.
+#[tactic(auto, unfolding(crate::specs::Written::mark_of_kind))]
 fn mark_of_kind(kind: u16) -> Mark
     ensures { result ≡ mark_of_kind kind }
 {

@@ -1,0 +1,5 @@
+-- `writing::written::put_digits` puts the last digits of a number. Measure: how many digits. Assumes nothing.
+use Rattle.writing.proofs.written.+put_digits.Given as goal
+
+abbrev pub decreases-put_digits : goal.decreases-put_digits
+decreases-put_digits l = l.f
