@@ -41,7 +41,7 @@ fn with_face(keys: &mut [u64; 6], n: usize, low: Vertex, face: Face) -> usize
 // The lowest corner followed by each triangle of the cut faces that do not hold it; how many they are.
 pub fn fan_block(solid: Solid, corners: &[u16], keys: &mut [u64; 6]) -> usize
     requires cornered { Cornered corners.now }
-    requires corners_len_bound { length (fan (element solid corners.now)) ≤ 6 }
+    requires fan_bound { length (fan (element solid corners.now)) ≤ 6 }
     requires keys_len { length keys.old ≡ 6 }
     ensures { BlockIs keys.new result (in_order (fan (element solid corners.now))) }
 {

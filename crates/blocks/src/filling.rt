@@ -30,7 +30,7 @@ fn fill_block(numbers: &[u16], cuts: &[u8; 1536], block: &mut [u64; 6]) -> usize
 fn put_keys(keys: &mut [u64], at: usize, block: &[u64; 6], n: usize)
     requires n_bound { n ≤ 6 }
     requires n_in_bounds { at + n ≤ length keys.old }
-    requires n_in_bounds_2 { n ≤ length block.now }
+    requires block_long { n ≤ length block.now }
     ensures { keys.new ≡ placed keys.old at (take n block.now) }
 {
     let mut k = 0;

@@ -170,7 +170,7 @@ fn row_tets(corners: &[u16], cuts: &[u8; 1536], row: usize, keys: &mut [u64; 6])
 
 // A hexahedron's tetrahedra, by its row of the table of cuts; how many they are.
 pub fn row_block(corners: &[u16], cuts: &[u8; 1536], keys: &mut [u64; 6]) -> usize
-    requires t { T (proper (element Hexahedron corners.now)) }
+    requires is_proper { T (proper (element Hexahedron corners.now)) }
     requires cuts_value { cuts.now ≡ cut_places }
     requires keys_len { length keys.old ≡ 6 }
     ensures { BlockIs keys.new result (cut_by_row corners.now) }

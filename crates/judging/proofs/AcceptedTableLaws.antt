@@ -1,7 +1,7 @@
 -- What an accepted table is: its elements are few, proper and fit, and its records have no fault.
 -- And so are the records of a table that is refused with JOIN, for all other tests come before the pairs.
 -- Assumes nothing.
-use mathlib.Core.Path.{◌≡◌, refl, sym, ap, ◌∙◌}
+use mathlib.Core.Path.{◌≡◌, refl, sym, ◌∙◌}
 use mathlib.Core.List.{List}
 use Prim.Native.Nat.{ℕ, ◌*◌, pred, ◌≤◌, ◌<◌}
 use native.Mathlib.Omega.{arith}

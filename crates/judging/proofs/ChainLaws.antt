@@ -13,7 +13,6 @@ use lib.Seq.{get_or-take, get_or-drop, get_or-set_same, get_or-set_other}
 use borrow.Author.Tests.{eqb-true, eqb-false, eq-eqb, ne_eqb, ltb-true, ltb-false, lt-ltb, leb-true, leb-false, le-leb, not-false}
 use Rattle.limits.specs.Limits.{element_limit, vertex_limit, element_width}
 use Rattle.laws.specs.Words.{keep, among, distinct}
-use Rattle.laws.specs.Searches.{least}
 use Rattle.laws.proofs.SearchLaws.{least_all, least-none}
 use Rattle.laws.proofs.TestLaws.{T_true, true-T, and_left, and_right, distinct_cons}
 use Rattle.laws.proofs.EveryLaws.{every_index, every_append, every_implies}
@@ -24,7 +23,7 @@ use Rattle.records.specs.Record.{kind_of, numbers_of, used_of, spare_of, record_
 use Rattle.records.specs.WholeRecords.{is_number, Faultless, WholeTable}
 use Rattle.records.proofs.RecordLaws.{used_length, kind-small, record_parts, clean_faultless}
 use Rattle.tables.specs.JudgedRecords.{bad_record}
-use Rattle.judging.specs.Judge.{bad_element, pair_fits, misfit}
+use Rattle.judging.specs.Judge.{pair_fits, misfit}
 use Rattle.tables.proofs.CleanRecordLaws.{record_clean}
 use Rattle.judging.specs.Judgement.{Recorded}
 use Rattle.judging.specs.ChainLoops.{Numbered, holds, latest, Filed, Seen, Grown, Meeting, Met}

@@ -12,7 +12,7 @@ use borrow.Author.Tests.{lt-ltb}
 use Rattle.limits.specs.Limits.{element_limit, vertex_limit, element_width}
 use Rattle.faults.specs.declared.Fault.TheVariants.{Many, Room, Join}
 use Rattle.faults.specs.declared.Refusal.{Refusal}
-use Rattle.faults.specs.Refusals.{Verdict, accepted, refused, refuse, refuse_pair, refuse_if, and_then}
+use Rattle.faults.specs.Refusals.{Verdict, accepted, refused, refuse, refuse_pair, refuse_if}
 use Rattle.faults.proofs.RefusalLaws.{then_if}
 use Rattle.solids.specs.Solids.{Element}
 use Rattle.records.specs.Record.{record_finding, record_at, first_elements}

@@ -1,3 +1,4 @@
 -- What is proved of reading numbers.
+pub mod PartLaws
 pub mod NegativeLaws
 pub mod Theorems

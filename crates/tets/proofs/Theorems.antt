@@ -3,7 +3,7 @@
 use mathlib.Core.Path.{◌≡◌, sym, ap, ◌∙◌}
 use Prim.Native.Nat.{ℕ, ◌<◌}
 use lib.Dec.{leb}
-use Rattle.solids.specs.Solids.{Tet, tet, of_tet}
+use Rattle.solids.specs.Solids.{tet, of_tet}
 use Rattle.solids.specs.Cut.{written, up_to}
 use Rattle.tets.specs.declared.Tet as code
 use Rattle.tets.specs.Tets.{tet_of, key_of, keyed}

@@ -35,6 +35,7 @@ fn are_fields(s: &[u8], n: usize) -> bool
 }
 
 // Whether a line has another number of fields than n, or wrong spacing.
+#[tactic(auto, unfolding(format::specs::Line::bad_shape, format::specs::Line::fields_of))]
 pub fn bad_shape(t: &[u8], n: usize) -> bool
     ensures { result ≡ bad_shape n t.now }
 {
@@ -106,6 +107,7 @@ fn judge_vertex(t: &[u8], count: usize) -> Judged
 }
 
 // What is wrong with a field of a line of that role.
+#[tactic(auto, unfolding(format::specs::Line::field_verdict))]
 fn judge_field(t: &[u8], role: Role, state: ReaderState) -> Judged
     ensures { result ≡ field_verdict state role t.now }
 {

@@ -23,6 +23,7 @@ pub enum Step {
 }
 
 // A fault with the place that it names.
+#[tactic(auto, unfolding(crate::specs::Reading::verdict_of))]
 fn refused(fault: Fault, place: usize) -> ReadAnswer
     ensures { verdict_of result ≡ refused (refuse fault place) }
 {
@@ -34,6 +35,7 @@ fn refused(fault: Fault, place: usize) -> ReadAnswer
 }
 
 // What the state after the last line says, where the next line would have number n.
+#[tactic(auto, unfolding(crate::specs::Reading::verdict_of, format::specs::File::at_end))]
 fn at_end(state: ReaderState, n: usize) -> ReadAnswer
     ensures { verdict_of result ≡ at_end state n }
 {

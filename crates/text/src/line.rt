@@ -13,6 +13,7 @@ use limits::{ELEMENT_LIMIT, ELEMENT_WIDTH, FIELDS_AT, VERTEX_LIMIT, VERTEX_WIDTH
 use numbers::scan::from;
 
 // Whether the mark is unknown, or VX after an element.
+#[tactic(auto, unfolding(format::specs::Line::bad_mark))]
 pub fn bad_mark(state: ReaderState, role: Role) -> bool
     ensures { result ≡ bad_mark state role }
 {
@@ -25,6 +26,7 @@ pub fn bad_mark(state: ReaderState, role: Role) -> bool
 }
 
 // Whether the line is a VX or element line beyond its limit.
+#[tactic(auto, unfolding(format::specs::Line::too_many))]
 pub fn too_many(state: ReaderState, role: Role) -> bool
     ensures { result ≡ too_many state role }
 {
@@ -37,6 +39,7 @@ pub fn too_many(state: ReaderState, role: Role) -> bool
 }
 
 // Whether the lent table is too short for the line's record.
+#[tactic(auto, unfolding(format::specs::Line::no_room))]
 pub fn no_room(rooms: Rooms, state: ReaderState, role: Role) -> bool
     requires { Few state }
     ensures { result ≡ no_room rooms state role }
@@ -50,6 +53,7 @@ pub fn no_room(rooms: Rooms, state: ReaderState, role: Role) -> bool
 }
 
 // Whether the numbers of two fields are others than the two counts so far.
+#[tactic(auto, unfolding(format::specs::Line::bad_counts))]
 fn counts_differ(state: ReaderState, t: &[u8]) -> bool
     ensures { result ≡ bad_counts state Role.EndLine (split space t.now) }
 {
@@ -64,6 +68,7 @@ fn counts_differ(state: ReaderState, t: &[u8]) -> bool
 }
 
 // Whether the line is EN with counts other than the file's.
+#[tactic(auto, unfolding(format::specs::Line::bad_counts))]
 fn bad_counts(state: ReaderState, role: Role, t: &[u8]) -> bool
     ensures { result ≡ bad_counts state role (split space t.now) }
 {
@@ -76,6 +81,7 @@ fn bad_counts(state: ReaderState, role: Role, t: &[u8]) -> bool
 }
 
 // The state after a line.
+#[tactic(auto, unfolding(format::specs::Line::after_role))]
 pub fn after(state: ReaderState, role: Role) -> ReaderState
     requires { Few state }
     ensures { result ≡ after_role state role }
@@ -111,6 +117,7 @@ pub fn open_line(state: ReaderState) -> Fault
 }
 
 // A line that its byte 10 ends.
+#[tactic(auto, unfolding(format::specs::Line::line_verdict, format::specs::Line::fields_of, format::specs::Line::after))]
 pub fn judge_line(t: &[u8], rooms: Rooms, state: ReaderState) -> Line
     requires { Few state }
     ensures { result ≡ line_verdict rooms state true t.now }

@@ -7,6 +7,7 @@ use format::{Mark, Role};
 use limits::MARK_WIDTH;
 
 // The mark with the bytes a and b, read as one number of two bytes: 0x56 is V, 0x58 is X, and so on.
+#[tactic(auto, using(format::proofs::MarkLaws::mark_by_number))]
 fn mark_with(a: u8, b: u8) -> Mark
     ensures { result ≡ mark_with a b }
 {
@@ -23,6 +24,7 @@ fn mark_with(a: u8, b: u8) -> Mark
 }
 
 // The mark with which a line starts.
+#[tactic(auto, unfolding(format::specs::Line::mark_of), using(format::proofs::MarkLaws::mark_short))]
 pub fn mark_of(t: &[u8]) -> Mark
     ensures { result ≡ mark_of t.now }
 {

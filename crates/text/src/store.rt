@@ -51,6 +51,7 @@ fn put_vertex(state: ReaderState, s: &[u8], table: &mut [i32])
 }
 
 // The record of an element line with the fields s.
+#[tactic(auto, unfolding(format::specs::Records::element_record))]
 fn element_record(state: ReaderState, mark: Mark, s: &[u8]) -> [u16; ELEMENT_WIDTH]
     ensures { result ≡ element_record state mark (split space s.now) }
 {
@@ -75,6 +76,7 @@ fn put_element(element: [u16; ELEMENT_WIDTH], at: usize, table: &mut [u16])
 }
 
 // What a line of that role adds to the vertex table.
+#[tactic(auto, unfolding(format::specs::Records::vertex_records, format::specs::Line::fields_of))]
 fn store_vertex(l: &[u8], role: Role, state: ReaderState, table: &mut [i32])
     requires { Few state }
     ensures { table.new ≡ sets table.old (vertex_width * state.vertices) (vertex_records state role l.now) }
@@ -88,6 +90,7 @@ fn store_vertex(l: &[u8], role: Role, state: ReaderState, table: &mut [i32])
 }
 
 // What a line of that role adds to the element table.
+#[tactic(auto, unfolding(format::specs::Records::element_records, format::specs::Line::fields_of))]
 fn store_element(l: &[u8], role: Role, state: ReaderState, table: &mut [u16])
     requires { Few state }
     ensures { table.new ≡ sets table.old (element_width * state.elements) (element_records state role l.now) }

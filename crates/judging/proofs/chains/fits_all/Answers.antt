@@ -1,7 +1,7 @@
 -- Each corner of element j marks the elements that hold its vertex, and tests those that are marked; where none of them is a misfit, none is.
 -- Assumes nothing.
 use Rattle.std.proofs.Common.{◌≡◌, refl, ◌∙◌, ap, ℕ, ◌+◌, ◌*◌, ◌/◌, ◌≤◌, ◌<◌, le_trans, Bool, true, false, not, eqb, ltb, List, get_or, arith}
-use borrow.Author.Tests.{eqb-true, eqb-false, lt-ltb}
+use borrow.Author.Tests.{eqb-true, eqb-false}
 use Rattle.limits.specs.Limits.{element_width}
 use Rattle.records.specs.Record.{kind_of, record_at}
 use Rattle.records.specs.WholeRecords.{WholeTable}

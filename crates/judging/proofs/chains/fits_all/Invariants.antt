@@ -1,6 +1,6 @@
 -- `judging::chains::fits_all` meets its contract. The loop's invariant: the elements that hold a vertex of element j before index x are marked, and those that hold two fit j.
 -- The measure is how many indices are left. Assumes nothing.
-use Rattle.std.proofs.Common.{◌≡◌, ℕ, ◌+◌, ◌*◌, ◌/◌, ◌-◌, ◌<◌, true, List, get_or}
+use Rattle.std.proofs.Common.{◌≡◌, ℕ, ◌*◌, ◌/◌, ◌-◌, ◌<◌, true, List, get_or}
 use Rattle.limits.specs.Limits.{element_width}
 use Rattle.judging.specs.Judge.{pair_fits}
 use Rattle.judging.specs.ChainLoops.{holds, Seen}
