@@ -25,7 +25,7 @@ fn put_tet(out: &mut [u16], at: usize, t: Tet)
 // The tetrahedra of the first n keys, from the front on.
 fn put_tets(out: &mut [u16], keys: &[u64], n: usize)
     requires n_in_bounds { n ≤ length keys.now }
-    requires n_in_bounds_2 { tetrahedron_width * n ≤ length out.old }
+    requires room { tetrahedron_width * n ≤ length out.old }
     ensures { out.new ≡ laid (flat (map keyed (take n keys.now))) out.old }
 {
     let mut k = 0;
