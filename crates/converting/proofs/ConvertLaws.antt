@@ -31,9 +31,6 @@ pub put_taken : {m : ℕ} {text old new : List ℕ} {r : ℕ} → Put m text old
 put_taken {m} {text} {old} p = rw (p.count, p.memory) (take-laid text old)
 
 module _ {m : ℕ} {text memory memory' : List ℕ} {n : ℕ} (p : Put m text memory n memory') (old : List ℕ) where
-  pub put_count : n ≡ length (take n memory')
-  put_count = rw (put_taken p) p.count
-
   -- ROOM, and the output as it was
   pub left-room : length old < n → Left (in_room (length old) text) old (Refused (refuse fault.Room 0)) old
   unfolding in_room

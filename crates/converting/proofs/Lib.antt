@@ -1,4 +1,5 @@
 -- What is proved of the conversion.
+pub mod StoreLaws
 pub mod PutTextLaws
 pub mod GoodTableLaws
 pub mod MeshTextLaws

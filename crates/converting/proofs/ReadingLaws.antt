@@ -8,7 +8,6 @@ use lib.IntN.{ℤ}
 use lib.ListN.{length, get_or, take}
 use Rattle.limits.specs.Limits.{vertex_width, element_width}
 use Rattle.laws.specs.Lent.{laid}
-use Rattle.faults.specs.declared.Fault.TheVariants as fault
 use Rattle.faults.specs.declared.Refusal.{Refusal}
 use Rattle.faults.specs.Refusals.{accepted, refused}
 use Rattle.faults.proofs.Theorems.{answer_tells_verdict}

@@ -1,6 +1,6 @@
 -- What the private functions of converting say: the text of a cut mesh, record by record, out of the two tables.
 -- proofs/MeshTextLaws.antt says that it is the page's text.
-use Rattle.std.specs.Prelude.{ℕ, zero, suc, ◌+◌, ◌*◌, ◌≤◌, ◌<◌, ◌≡◌, List, [], ◌∷◌, ◌++◌, T, ℤ, pos, length, get_or}
+use Rattle.std.specs.Prelude.{ℕ, zero, suc, ◌+◌, ◌*◌, ◌≤◌, ◌<◌, ◌≡◌, List, [], ◌++◌, T, ℤ, pos, length, get_or}
 use Rattle.limits.specs.Limits.{vertex_limit, tetrahedron_limit, vertex_width, tetrahedron_width}
 use Rattle.laws.specs.Lent.{laid}
 use Rattle.laws.specs.Words.{every}

@@ -24,7 +24,7 @@ fn length_in(answer: WriteAnswer) -> usize
 // The line of vertex k, from 0; its length.
 fn put_vertex(vertices: &[i32], k: usize, out: &mut [u8]) -> usize
     requires good_vertices { GoodVertices vertices.now (k + 1) }
-    requires longest_vertex_in_bounds { longest_vertex ≤ length out.old }
+    requires room { longest_vertex ≤ length out.old }
     ensures { Put longest_vertex (vertex_text vertices.now k) out.old result out.new }
 {
     let at = VERTEX_WIDTH * k;
@@ -37,7 +37,7 @@ fn put_vertex(vertices: &[i32], k: usize, out: &mut [u8]) -> usize
 // The lines of the vertices; their length.
 fn put_vertices(vertices: &[i32], count: usize, out: &mut [u8]) -> usize
     requires good_vertices { GoodVertices vertices.now count }
-    requires count_in_bounds { longest_vertex * count ≤ length out.old }
+    requires room { longest_vertex * count ≤ length out.old }
     ensures { Put (longest_vertex * count) (text_to (vertex_text vertices.now) count) out.old result out.new }
 {
     let mut at = 0;
@@ -53,7 +53,7 @@ fn put_vertices(vertices: &[i32], count: usize, out: &mut [u8]) -> usize
 // The line of tetrahedron k, from 0; its length.
 fn put_tetrahedron(tetrahedra: &[u16], k: usize, out: &mut [u8]) -> usize
     requires good_tetrahedra { GoodTetrahedra tetrahedra.now (k + 1) }
-    requires longest_tetrahedron_in_bounds { longest_tetrahedron ≤ length out.old }
+    requires room { longest_tetrahedron ≤ length out.old }
     ensures { Put longest_tetrahedron (tetrahedron_text tetrahedra.now k) out.old result out.new }
 {
     let at = TETRAHEDRON_WIDTH * k;
@@ -68,7 +68,7 @@ fn put_tetrahedron(tetrahedra: &[u16], k: usize, out: &mut [u8]) -> usize
 // The lines of the tetrahedra; their length.
 fn put_tetrahedra(tetrahedra: &[u16], count: usize, out: &mut [u8]) -> usize
     requires good_tetrahedra { GoodTetrahedra tetrahedra.now count }
-    requires count_in_bounds { longest_tetrahedron * count ≤ length out.old }
+    requires room { longest_tetrahedron * count ≤ length out.old }
     ensures { Put (longest_tetrahedron * count) (text_to (tetrahedron_text tetrahedra.now) count) out.old result out.new }
 {
     let mut at = 0;
@@ -83,9 +83,9 @@ fn put_tetrahedra(tetrahedra: &[u16], count: usize, out: &mut [u8]) -> usize
 
 // EN with the two counts; its length.
 fn put_end(vertices: usize, tetrahedra: usize, out: &mut [u8]) -> usize
-    requires vertices_le_vertex_limit { vertices ≤ vertex_limit }
-    requires tetrahedra_le_tetrahedron_limit { tetrahedra ≤ tetrahedron_limit }
-    requires longest_end_in_bounds { longest_end ≤ length out.old }
+    requires few_vertices { vertices ≤ vertex_limit }
+    requires few_tetrahedra { tetrahedra ≤ tetrahedron_limit }
+    requires room { longest_end ≤ length out.old }
     ensures { Put longest_end (closed (end_line vertices tetrahedra)) out.old result out.new }
 {
     length_in(write_end(vertices, tetrahedra, out))
@@ -101,7 +101,7 @@ pub fn put_mesh(
 ) -> usize
     requires good_vertices { GoodVertices vertices.now vertex_count }
     requires good_tetrahedra { GoodTetrahedra tetrahedra.now count }
-    requires longest_output_in_bounds { longest_output ≤ length out.old }
+    requires room { longest_output ≤ length out.old }
     ensures { Put longest_output (mesh_text vertices.now vertex_count tetrahedra.now count) out.old result out.new }
 {
     let first = put_vertices(vertices, vertex_count, out);
