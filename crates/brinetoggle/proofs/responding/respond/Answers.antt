@@ -12,4 +12,4 @@ pub returns-in-Refused : goal.returns-in-Refused
 returns-in-Refused c =
     let a = c.args in
     rw c.length_in.ensures
-    (refusal_responded a.input.now a.output.now _ c.convert.result c.requires (search rules) c.convert.ensures _ c.write_refusal.result _ (search rules) c.in-Refused.is c.write_refusal.ensures)
+    (refusal_responded a.input.now a.output.now _ c.convert.result c.requires (search rules) c.convert.ensures _ c.write_refusal-line.result _ (search rules) c.in-Refused.is c.write_refusal-line.ensures)
