@@ -1,3 +1,4 @@
 -- What is proved of the program.
+pub mod InputLaws
 pub mod RespondingLaws
 pub mod Theorems

@@ -1,6 +1,6 @@
 // Standard input, read into lent room to its end or until the room is full. A read that fails is told apart from the end.
-ghost use Rattle.std.specs.Prelude.{◌≡◌, ◌+◌, ◌^◌, ◌<◌, length, IfOk};
-ghost use Rattle.brinetoggle.specs.Input.{turn_of, TurnWithin, InputWithin};
+ghost use Rattle.std.specs.Prelude.{◌≡◌, ◌+◌, ◌^◌, ◌<◌, length, take, IfOk};
+ghost use Rattle.brinetoggle.specs.Input.{turn_of, TurnWithin, TurnReads, InputWithin, InputReads};
 
 use crate::words::explain_failure;
 use std::io;
@@ -35,9 +35,10 @@ fn turn_of(got: io::Result<usize>, at: usize) -> Turn
 }
 
 // One read into the room behind the bytes that were read before it; why it fails is said on standard error.
-fn read_more(rt: &impl Eprint, input: &mut impl Read, room: &mut [u8], at: usize) -> Turn
+fn read_more<I: Read>(rt: &impl Eprint, input: &mut I, room: &mut [u8], at: usize) -> Turn
     requires { at < length room.old }
-    ensures { TurnWithin at (length room.old) result }
+    ensures within { TurnWithin at (length room.old) result }
+    ensures bytes { TurnReads (I.remaining input.old) (take at room.old) (I.remaining input.new) result room.new }
 {
     let got = input.read(&mut room[at..]);
     if let Err(failure) = &got {
@@ -47,8 +48,9 @@ fn read_more(rt: &impl Eprint, input: &mut impl Read, room: &mut [u8], at: usize
 }
 
 // Reads until the input ends, a read fails or the room is full.
-pub fn read_input(rt: &impl Eprint, input: &mut impl Read, room: &mut [u8]) -> Input
-    ensures { InputWithin (length room.old) result }
+pub fn read_input<I: Read>(rt: &impl Eprint, input: &mut I, room: &mut [u8]) -> Input
+    ensures within { InputWithin (length room.old) result }
+    ensures bytes { InputReads (I.remaining input.old) result room.new }
 {
     let mut at = 0;
     while at < room.len() {
