@@ -1,51 +1,49 @@
--- What the answer of a read means, and the room that is left behind the bytes that it moved. Assumes nothing.
-use Prim.Native.Nat.{ℕ, zero, suc, ◌+◌, ◌-◌, ◌≤◌, ◌<◌}
-use mathlib.Core.Path.{◌≡◌, refl, subst}
-use mathlib.Core.Bool.{true, false}
-use mathlib.Core.List.{List}
-use native.Mathlib.Omega.{arith}
-use borrow.Author.Tests.{ltb-true, ltb-false}
-use lib.Dec.{T}
-use lib.IntN.{ℤ, pos, negsuc, nat_abs}
-use lib.ListN.{length, take, drop, length-take, length-drop}
-use lib.Signed.{lt_z, non_neg}
-use Rattle.libc.specs.Io.{Moved}
-use Rattle.brinetoggle.specs.Input.{turn_of, TurnWithin}
-use Rattle.brinetoggle.specs.declared.reading.Input.TheVariants.{Got, Failed}
-use Rattle.brinetoggle.specs.declared.reading.Turn.TheVariants.{More, Stop}
+-- What a read adds to the bytes that were read before, and what the first bytes of a file tell of the whole. Assumes nothing.
+use Rattle.std.proofs.Common.{◌≡◌, refl, sym, ap, subst, ◌∙◌, ℕ, zero, suc, ◌+◌, ◌≤◌, ◌<◌, List, ◌++◌, length, take, append_assoc}
+use Rattle.std.specs.Prelude.{Option, Some, None, IfSome, Result, Ok, Err}
+use Rattle.std.specs.Io.{ReadsAtMost}
+use Rattle.std.specs.Io.KnownBytes.{Consumes, ReadConsumes, prepend_known}
+use Rattle.std.proofs.Math.Nat.{add-zero}
+use Rattle.std.proofs.Math.Seq.{take-append-add}
+use Rattle.std.proofs.lemmas.List.{take-append-le, length-take-le}
+use borrow.Rule.Slice.PartMut.{put_mid, post_of}
+use Rattle.brinetoggle.specs.Input.{input_room, turn_of, TurnReads, InputReads}
+use Rattle.converting.specs.Conversion.{program_output}
+use Rattle.brinetoggle.proofs.Theorems.{first_bytes_enough}
+use Rattle.brinetoggle.specs.declared.reading.Input.TheVariants.{Got}
 
--- ---- what an answer means
+-- ---- one read
 
-pub failed : (z : ℤ) (at : ℕ) → lt_z z (pos 0) ≡ true → Stop Failed ≡ turn_of z at
-failed (pos n) at h = let l : n < 0 = ltb-true n 0 h in absurd (omega arith)
-failed (negsuc n) at h = refl
+-- bytes that stand behind others
+consumed : (before after : Option (List ℕ)) (front bytes : List ℕ) → Consumes before after bytes → Consumes (prepend_known front before) after (front ++ bytes)
+consumed None after front bytes h = tt
+consumed (Some xs) None front bytes h = h
+consumed (Some xs) (Some ys) front bytes h = ap (λ zs. front ++ zs) h ∙ sym (append_assoc front bytes ys)
 
-pub ended : (z : ℤ) (at : ℕ) → lt_z z (pos 0) ≡ false → lt_z z (pos 1) ≡ true → Stop (Got at) ≡ turn_of z at
-ended (pos zero) at h k = refl
-ended (pos (suc n)) at h k = let l : suc n < 1 = ltb-true (suc n) 1 k in absurd (omega arith)
-ended (negsuc n) at h k = absurd (subst T h tt)
+-- the front of a room whose part from `at` on was written
+take_written : (at k n : ℕ) (old part : List ℕ) → at ≤ length old → n ≤ length part → take (at + n) (put_mid at k old part) ≡ take at old ++ take n part
+take_written at k n old part a p =
+    let l : length (take at old) ≡ at = length-take-le at old a in
+    ap (λ i. take (i + n) (take at old ++ (part ++ post_of at k old))) (sym l)
+    ∙ take-append-add (take at old) (part ++ post_of at k old) n
+    ∙ ap (λ zs. take at old ++ zs) (take-append-le n part (post_of at k old) p)
 
--- bytes were moved
-pub positive : (z : ℤ) → lt_z z (pos 0) ≡ false → T (non_neg z)
-positive (pos n) h = tt
-positive (negsuc n) h = absurd (subst T h tt)
+-- a read into the part from `at` on
+module _ (before after : Option (List ℕ)) (at k : ℕ) (old part : List ℕ) (inside : at ≤ length old) (room : 0 < length part) where
+  moved : (n : ℕ) → n ≤ length part → Consumes before after (take n part) → Consumes (prepend_known (take at old) before) after (take (at + n) (put_mid at k old part))
+  moved n p h = rw (take_written at k n old part inside p) (consumed before after (take at old) (take n part) h)
 
-pub moved : (z : ℤ) (at : ℕ) → lt_z z (pos 0) ≡ false → lt_z z (pos 1) ≡ false → More (at + nat_abs z) ≡ turn_of z at
-moved (pos zero) at h k = let l : 1 ≤ 0 = ltb-false 0 1 k in absurd (omega arith)
-moved (pos (suc n)) at h k = refl
-moved (negsuc n) at h k = absurd (subst T h tt)
+  pub turn_reads : {E : Type 0} (got : Result ℕ E) → ReadsAtMost got part → ReadConsumes before after got part → TurnReads before (take at old) after (turn_of got at) (put_mid at k old part)
+  turn_reads (Err e) p h = tt
+  turn_reads (Ok zero) p h = (subst (λ i. Consumes (prepend_known (take at old) before) after (take i (put_mid at k old part))) (add-zero at) (moved 0 p.0 h.0), h.1 refl room)
+  turn_reads (Ok (suc n)) p h = moved (suc n) p.0 h.0
 
--- ---- the room
+-- ---- the whole file
 
-module _ (at : ℕ) (room : List ℕ) (inside : at < length room) where
-  part_length : length (take (length room - at) (drop at room)) ≡ length room - at
-  part_length = simp (length-take, length-drop) (omega arith)
-
-  pub answer-small : (z : ℤ) → Moved (length (take (length room - at) (drop at room))) z → at + nat_abs z ≤ length room
-  answer-small (pos n) h = let l = part_length in omega arith
-  answer-small (negsuc n) h = omega arith
-
-  pub turn_within : (z : ℤ) → Moved (length (take (length room - at) (drop at room))) z → TurnWithin at (length room) (turn_of z at)
-  turn_within (pos zero) h = omega arith
-  turn_within (pos (suc n)) h = let l = part_length in (omega arith, omega arith)
-  turn_within (negsuc n) h = tt
+-- what the first bytes tell of a known file
+pub of_file : (known : Option (List ℕ)) (n : ℕ) (room : List ℕ) (P : List ℕ → Type 0) → length room ≡ input_room → InputReads known (Got n) room
+    → P (program_output (take n room)) → IfSome known (λ file. P (program_output file))
+of_file None n room P size h p = tt
+of_file (Some file) n room P size h p =
+    let same : program_output (take n room) ≡ program_output file = ap program_output (h ∙ ap (λ i. take i file) size) ∙ first_bytes_enough file in
+    subst P same p

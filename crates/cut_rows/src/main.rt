@@ -1,25 +1,27 @@
 // Prints the table of the hexahedron's cuts as the library reads it: a line for each of the 64 rows, its 24 places apart by spaces.
 #![tactic(auto)]
 
-use libc::STDOUT_FILENO;
+use places::row_place;
+use std::io;
 
-fn print_place(row: usize, at: usize) {
-    let place = places::row_place(row, at);
+fn print_place(rt: &impl Print, row: usize, at: usize) -> io::Result<()> {
+    let place = row_place(row, at);
     if 0 < at {
-        io::write_all(STDOUT_FILENO, b" ");
+        print!(rt; " ")?;
     }
-    io::print_decimal(STDOUT_FILENO, place.0 as u64);
+    print!(rt; "{}", place.0)
 }
 
-fn print_row(row: usize) {
+fn print_row(rt: &impl Print, row: usize) -> io::Result<()> {
     for at in 0..24 {
-        print_place(row, at);
+        print_place(rt, row, at)?;
     }
-    io::write_all(STDOUT_FILENO, b"\n");
+    println!(rt)
 }
 
-fn main() {
+fn main(rt: HostRuntime) -> io::Result<()> {
     for row in 0..64 {
-        print_row(row);
+        print_row(&rt, row)?;
     }
+    Ok(())
 }

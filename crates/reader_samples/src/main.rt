@@ -7,20 +7,40 @@
 mod files;
 mod show;
 
-ghost use Rattle.std.specs.Prelude.{◌≤◌, length};
+ghost use Rattle.std.specs.Prelude.{◌≤◌, length, IfOk};
 
 use show::{sample, sample_in};
+use std::io;
+use std::io::Read;
 
 const LINE_END: u8 = 10;
 
 const SAMPLE: u8 = b'#';
 
-fn main() {
-    let mut buffer = io::large_buffer();
-    let n = io::read_full(0, &mut buffer);
-    samples(&buffer[..n]);
-    rooms();
-    files::limits();
+// The longest text of samples.
+const ROOM: usize = 65536;
+
+fn main(rt: HostRuntime) -> io::Result<()> {
+    let mut buffer = [0u8; ROOM];
+    let n = read_full(&mut rt.stdin(), &mut buffer)?;
+    samples(&rt, &buffer[..n])?;
+    rooms(&rt)?;
+    files::limits(&rt)
+}
+
+// Reads until the buffer is full or the input ends: how many bytes stand at the front of the buffer.
+fn read_full(input: &mut impl Read, buffer: &mut [u8]) -> io::Result<usize>
+    ensures { IfOk result (λ n. n ≤ length buffer.new) }
+{
+    let mut at = 0;
+    while at < buffer.len() {
+        let n = input.read(&mut buffer[at..])?;
+        if n == 0 {
+            return Ok(at);
+        }
+        at += n;
+    }
+    Ok(at)
 }
 
 // Where b stands first in t, or t's length.
@@ -38,50 +58,56 @@ fn find(t: &[u8], b: u8) -> usize
 }
 
 // A sample: its name, byte 10, the file.
-fn named(t: &[u8]) {
+fn named(rt: &impl Print, t: &[u8]) -> io::Result<()> {
     let n = find(t, LINE_END);
     if n < t.len() {
-        sample(&t[..n], &t[n + 1..]);
+        sample(rt, &t[..n], &t[n + 1..])?;
     }
+    Ok(())
 }
 
 // The samples of a text, each behind its `#`.
-fn samples(text: &[u8]) {
+fn samples(rt: &impl Print, text: &[u8]) -> io::Result<()> {
     let mut t = text;
     while 0 < t.len() {
         let n = find(t, SAMPLE);
-        named(&t[..n]);
+        named(rt, &t[..n])?;
         if n == t.len() {
-            return;
+            return Ok(());
         }
         t = &t[n + 1..];
     }
+    Ok(())
 }
 
 // ROOM: a lent table too short, and one that is just long enough.
-fn rooms() {
+fn rooms(rt: &impl Print) -> io::Result<()> {
     sample_in(
+        rt,
         b"room for one vertex",
         b"VX 0 0 0\nVX 0 0 0\nEN 2 0\n",
         5,
         9,
-    );
+    )?;
     sample_in(
+        rt,
         b"room for two vertices",
         b"VX 0 0 0\nVX 0 0 0\nEN 2 0\n",
         6,
         9,
-    );
+    )?;
     sample_in(
+        rt,
         b"room for no element",
         b"VX 0 0 0\nTE 1 1 1 1\nEN 1 1\n",
         3,
         8,
-    );
+    )?;
     sample_in(
+        rt,
         b"room for one element",
         b"VX 0 0 0\nTE 1 1 1 1\nEN 1 1\n",
         3,
         9,
-    );
+    )
 }

@@ -3,8 +3,8 @@
 
 ghost use Rattle.std.specs.Prelude.{◌≡◌, nat_abs};
 
-use faults::Refusal;
-use libc::STDOUT_FILENO;
+use faults::{Refusal, number_of};
+use std::io;
 use volume::{Point, VolumeAnswer, sixfold_volume};
 
 fn point(x: i32, y: i32, z: i32) -> Point {
@@ -21,74 +21,67 @@ fn size(z: i64) -> u64
     (-1 - z) as u64 + 1
 }
 
-fn print_volume(volume: i64) {
+fn print_volume(rt: &impl Print, volume: i64) -> io::Result<()> {
     if volume < 0 {
-        io::write_all(STDOUT_FILENO, b"-");
+        print!(rt; "-")?;
     }
-    io::print_decimal(STDOUT_FILENO, size(volume));
-    io::write_all(STDOUT_FILENO, b"\n");
+    println!(rt; "{}", size(volume))
 }
 
-fn print_refusal(refusal: Refusal) {
-    let fault = refusal.fault;
-    let number = faults::number_of(fault);
-    io::write_all(STDOUT_FILENO, b"NO ");
-    io::print_decimal(STDOUT_FILENO, number as u64);
-    io::write_all(STDOUT_FILENO, b" ");
-    io::print_decimal(STDOUT_FILENO, refusal.place as u64);
-    io::write_all(STDOUT_FILENO, b" ");
-    io::print_decimal(STDOUT_FILENO, refusal.second as u64);
-    io::write_all(STDOUT_FILENO, b"\n");
+fn print_refusal(rt: &impl Print, refusal: Refusal) -> io::Result<()> {
+    let number = number_of(refusal.fault);
+    let (place, second) = (refusal.place, refusal.second);
+    println!(rt; "NO {number} {place} {second}")
 }
 
-fn print_answer(answer: VolumeAnswer) {
+fn print_answer(rt: &impl Print, answer: VolumeAnswer) -> io::Result<()> {
     match answer {
-        VolumeAnswer::Done(volume) => print_volume(volume),
-        VolumeAnswer::Refused(refusal) => print_refusal(refusal),
+        VolumeAnswer::Done(volume) => print_volume(rt, volume),
+        VolumeAnswer::Refused(refusal) => print_refusal(rt, refusal),
     }
 }
 
 // The page's prism, cut; one of its tetrahedra mirrored; four of its corners on one face.
-fn prism() {
+fn prism(rt: &impl Print) -> io::Result<()> {
     let first = point(0, 0, 0);
     let second = point(1250, 0, 0);
     let third = point(0, 1250, 0);
     let fourth = point(0, 0, 1000);
     let fifth = point(1250, 0, 1000);
     let sixth = point(0, 1250, 1000);
-    print_answer(sixfold_volume(first, second, third, sixth));
-    print_answer(sixfold_volume(first, second, sixth, fifth));
-    print_answer(sixfold_volume(first, fourth, fifth, sixth));
-    print_answer(sixfold_volume(first, third, second, sixth));
-    print_answer(sixfold_volume(first, second, fifth, fourth));
+    print_answer(rt, sixfold_volume(first, second, third, sixth))?;
+    print_answer(rt, sixfold_volume(first, second, sixth, fifth))?;
+    print_answer(rt, sixfold_volume(first, fourth, fifth, sixth))?;
+    print_answer(rt, sixfold_volume(first, third, second, sixth))?;
+    print_answer(rt, sixfold_volume(first, second, fifth, fourth))
 }
 
 // The largest volume that four points within the limits have, and the same mirrored.
-fn largest() {
+fn largest(rt: &impl Print) -> io::Result<()> {
     let a = point(-500000, -500000, -500000);
     let b = point(500000, 500000, -500000);
     let c = point(-500000, 500000, 500000);
     let d = point(500000, -500000, 500000);
-    print_answer(sixfold_volume(a, b, c, d));
-    print_answer(sixfold_volume(a, c, b, d));
+    print_answer(rt, sixfold_volume(a, b, c, d))?;
+    print_answer(rt, sixfold_volume(a, c, b, d))
 }
 
 // A point just beyond a limit, at each place; then at two places, of which the lower is named.
-fn beyond() {
+fn beyond(rt: &impl Print) -> io::Result<()> {
     let inside = point(500000, -500000, 500000);
     let right = point(500001, 0, 0);
     let front = point(0, -500001, 0);
     let above = point(0, 0, 500001);
     let left = point(-500001, 0, 0);
-    print_answer(sixfold_volume(right, inside, inside, inside));
-    print_answer(sixfold_volume(inside, front, inside, inside));
-    print_answer(sixfold_volume(inside, inside, above, inside));
-    print_answer(sixfold_volume(inside, inside, inside, left));
-    print_answer(sixfold_volume(inside, front, inside, left));
+    print_answer(rt, sixfold_volume(right, inside, inside, inside))?;
+    print_answer(rt, sixfold_volume(inside, front, inside, inside))?;
+    print_answer(rt, sixfold_volume(inside, inside, above, inside))?;
+    print_answer(rt, sixfold_volume(inside, inside, inside, left))?;
+    print_answer(rt, sixfold_volume(inside, front, inside, left))
 }
 
-fn main() {
-    prism();
-    largest();
-    beyond();
+fn main(rt: HostRuntime) -> io::Result<()> {
+    prism(&rt)?;
+    largest(&rt)?;
+    beyond(&rt)
 }

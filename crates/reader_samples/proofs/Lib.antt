@@ -1,2 +1,0 @@
--- What the sample program of reading wants.
-pub mod SizeOf
