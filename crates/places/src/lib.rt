@@ -35,6 +35,7 @@ fn first_face(solid: Solid) -> usize
 }
 
 // The place `corner` of the face `face` of a solid, both from 0; none where there is no such place.
+#[tactic(auto, using(crate::proofs::PlaceTableLaws::corner_beyond))]
 pub fn face_place(solid: Solid, face: usize, corner: usize) -> Place
     ensures { result.0 ≡ face_place solid face corner }
 {

@@ -4,7 +4,7 @@ use Prim.Native.Nat.{ℕ, suc, ◌+◌, ◌*◌, ◌/◌, ◌%◌, ◌^◌, ◌�
 use native.Mathlib.Nat.{le_refl, not-suc-le-zero, div-div-eq-div-mul}
 use native.Mathlib.Numerals.{add-one}
 use native.Mathlib.Omega.{arith}
-use mathlib.Core.Path.{◌≡◌, refl, sym, ◌∙◌}
+use mathlib.Core.Path.{◌≡◌, refl, sym, ap, ◌∙◌}
 use mathlib.Core.Bool.{Bool, true, false, ◌&&◌}
 use mathlib.Core.List.{List, [], ◌∷◌, ◌++◌, map, append-nil, append_assoc, map-append}
 use lib.Dec.{T, ltb, leb, leb→le}
@@ -12,6 +12,9 @@ use lib.IntN.{ℤ, pos, negsuc, nat_abs}
 use lib.ListN.{length, get_or, take, length-append, get_or-eq_default}
 use lib.Seq.{take_all, take-suc}
 use lib.Signed.{lt_z}
+use mir.Syntax.{w32}
+use mir.Val.{SFits, to_z, of_z}
+use mir.Facts.{to_z-of_z}
 use borrow.Author.Tests.{ltb-true, ltb-false}
 use Rattle.limits.specs.Limits.{line_end, space, minus, point, vertex_limit, tetrahedron_limit}
 use Rattle.laws.specs.Words.{gather, every}
@@ -47,6 +50,24 @@ pub no_sign : (z : ℤ) → lt_z z (pos 0) ≡ false → sign_of z ≡ []
 unfolding sign_of
 no_sign (pos n) h = refl
 no_sign (negsuc n) h = let z : ◌≡◌ {A = ℕ} 0 1 = cc in let q : ⊥ = omega arith in absurd q
+
+-- a coordinate below 0, put as its sign and its size
+pub signed_put : (old mid new : List ℕ) (at k r m : ℕ) (z : ℤ) → SFits w32 z → lt_z (to_z w32 (of_z w32 z)) (pos 0) ≡ true → m ≡ nat_abs (to_z w32 (of_z w32 z))
+    → Put old at (minus ∷ []) mid k → Put mid k (millimetres_of m) new r → Put old at (coordinate_text z) new r
+unfolding coordinate_text
+signed_put old mid new at k r m z f l e a b =
+    let back = to_z-of_z f in
+    let e' : m ≡ nat_abs z = e ∙ ap nat_abs back in
+    rw (minus_sign z (rw back at l), ← e') (put_two a b)
+
+-- one of 0 or above, put as its size
+pub unsigned_put : (old new : List ℕ) (at r m : ℕ) (z : ℤ) → SFits w32 z → lt_z (to_z w32 (of_z w32 z)) (pos 0) ≡ false → m ≡ nat_abs (to_z w32 (of_z w32 z))
+    → Put old at (millimetres_of m) new r → Put old at (coordinate_text z) new r
+unfolding coordinate_text
+unsigned_put old new at r m z f l e a =
+    let back = to_z-of_z f in
+    let e' : m ≡ nat_abs z = e ∙ ap nat_abs back in
+    rw (no_sign z (rw back at l), ← e') a
 
 -- ---- a number by its last digit
 

@@ -108,6 +108,7 @@ fn put_millimetres(line: &mut [u8], at: usize, m: usize) -> usize
 }
 
 // A coordinate, with no minus on zero.
+#[tactic(auto, using(crate::proofs::WrittenLaws::signed_put, crate::proofs::WrittenLaws::unsigned_put))]
 fn put_coordinate(line: &mut [u8], at: usize, z: i32) -> usize
     ensures { Put line.old at (coordinate_text z) line.new result }
 {

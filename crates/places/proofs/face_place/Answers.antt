@@ -1,10 +1,10 @@
 -- `places::face_place` meets its contract: the place is that of the face, and where there is no such face or corner there is none.
 -- Assumes nothing.
-use Rattle.std.proofs.Common.{◌≡◌, ℕ, ◌+◌, ◌≤◌, ◌<◌, [], get_or, sym, ◌∙◌, ap}
+use Rattle.std.proofs.Common.{◌≡◌, ℕ, ◌+◌, ◌≤◌, ◌<◌, [], get_or, sym, ◌∙◌, ap, arith}
 use Rattle.solids.specs.declared.Solid.{Solid}
 use Rattle.solids.specs.Solids.{face_count, face_place}
 use Rattle.places.specs.PlaceLoops.{first_face, face_rows}
-use Rattle.places.proofs.PlaceTableLaws.{face_beyond, corner_beyond, face_entry}
+use Rattle.places.proofs.PlaceTableLaws.{face_beyond, face_entry}
 use Rattle.places.proofs.face_place.Goals as goal
 
 -- what the code's counts say, over plain numbers
@@ -19,10 +19,7 @@ entry s n f i k x e g h j p =
 pub returns-then-face_count-face : goal.returns-then-face_count-face
 returns-then-face_count-face c = let a = c.args in beyond a.solid c.face_count.result a.face a.corner c.face_count.ensures c.if-face_count-face.true
 
-pub returns-then-corner-ge4 : goal.returns-then-corner-ge4
-returns-then-corner-ge4 c = sym (corner_beyond c.args.solid c.args.face c.args.corner c.if-corner-ge4.true)
-
 pub returns : goal.returns
 returns c =
     entry c.args.solid c.face_count.result c.first_face.result c.args.face c.args.corner c.face_entry.result
-    c.face_count.ensures c.first_face.ensures c.if-face_count-face.false c.if-corner-ge4.false c.face_entry.ensures
+    c.face_count.ensures c.first_face.ensures c.if-face_count-face.false (omega arith) c.face_entry.ensures
