@@ -1,7 +1,7 @@
-// The front for C: each entry under a plain name, with its answer as the page's numbers.
+// The front for other languages: each entry under a plain name, with its answer as the page's numbers. The crate `brine_c` exports these functions.
 //
-// A slice is a pointer and a length that counts numbers; an array of fixed size is a bare pointer. Each function returns the refusal number,
-// 0 where it accepted, and writes the whole answer array: number, place, second number, then its own values, zeros where it refused.
+// Each function returns the refusal number, 0 where it accepted, and writes the whole answer array: number, place, second number, then its own
+// values, zeros where it refused.
 #![tactic(auto)]
 
 mod told;
