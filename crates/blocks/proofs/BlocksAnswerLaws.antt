@@ -1,11 +1,12 @@
 -- From the judgement and the filled blocks to the answer, and from the answer back; and the arrays of an accepted table.
 -- Assumes nothing.
-use mathlib.Core.Path.{◌≡◌, refl, sym, ap, ◌∙◌, subst}
+use mathlib.Core.Path.{◌≡◌, refl, sym, ap, ◌∙◌}
 use mathlib.Core.List.{List, [], ◌∷◌}
 use Prim.Native.Nat.{ℕ, ◌≤◌}
 use native.Mathlib.Omega.{arith}
 use lib.ListN.{length, take, drop, length-map}
 use lib.Seq.{take_at}
+use Rattle.std.specs.Prelude.{Result, Ok, Err}
 use Rattle.limits.specs.Limits.{element_limit, tetrahedron_limit}
 use Rattle.laws.specs.Lent.{laid}
 use Rattle.laws.proofs.LentLaws.{laid_none, placed-laid, length-placed}
@@ -16,22 +17,14 @@ use Rattle.solids.specs.Solids.{Element}
 use Rattle.solids.specs.Cut.{cut, cut_mesh}
 use Rattle.records.proofs.Theorems.{first-length}
 use Rattle.tets.specs.Tets.{key_of}
-use Rattle.judging.specs.declared.JudgeAnswer.{JudgeAnswer}
-use Rattle.judging.specs.Judge.{judged, JudgeDone}
-use Rattle.judging.specs.Judgement.{Judging}
-use Rattle.judging.proofs.Theorems.{judge_told, accepted-elements, accepted-few, accepted_tetrahedra}
-use Rattle.blocks.specs.declared.BlocksAnswer.{BlocksAnswer}
-use Rattle.blocks.specs.declared.BlocksAnswer.TheVariants.{Done, Refused}
+use Rattle.judging.specs.Judge.{judged}
+use Rattle.judging.proofs.Theorems.{accepted-elements, accepted-few, accepted_tetrahedra}
 use Rattle.blocks.specs.Blocks.{keys_of, sizes_of, blocks_verdict, BlocksDone, BlocksCut}
 use Rattle.blocks.specs.BlockLoops.{Filled}
 
--- the judgement of an answer that is known
-pub judging_at : (v n : ℕ) (t : List ℕ) {r s : JudgeAnswer} → r ≡ s → JudgeDone v n t r → Judging v n t s
-judging_at v n t {r} {s} e h = judge_told v n t s (subst (JudgeDone v n t) e h)
-
 module _ {v n : ℕ} {t keys sizes : List ℕ} where
   -- refused: nothing is written
-  pub nothing_cut : {x : Refusal} → judged v n t ≡ refused x → BlocksDone v n t keys sizes (Refused x) keys sizes
+  pub nothing_cut : {x : Refusal} → judged v n t ≡ refused x → BlocksDone v n t keys sizes (Err x) keys sizes
   nothing_cut e = record {
     answer = rw e;
     keys_laid = rw e (sym (laid_none keys));
@@ -39,7 +32,7 @@ module _ {v n : ℕ} {t keys sizes : List ℕ} where
   }
 
   -- accepted: the blocks of all elements
-  pub all_cut : {es : List Element} → judged v n t ≡ accepted es → {r : ℕ} {keys' sizes' : List ℕ} → Filled es keys sizes r keys' sizes' → BlocksDone v n t keys sizes (Done r) keys' sizes'
+  pub all_cut : {es : List Element} → judged v n t ≡ accepted es → {r : ℕ} {keys' sizes' : List ℕ} → Filled es keys sizes r keys' sizes' → BlocksDone v n t keys sizes (Ok r) keys' sizes'
   all_cut e f = record {
     answer = rw e (ap (λ (m : ℕ). answer_of (0 ∷ []) (accepted (m ∷ []))) f.count);
     keys_laid = rw e f.keys_laid;
@@ -52,17 +45,17 @@ abbrev wanted : Verdict (List Element) → Verdict (List ℕ)
 wanted j = and_then j λ es. accepted (length (cut_mesh es) ∷ [])
 
 module _ {v n : ℕ} {t keys sizes keys' sizes' : List ℕ} where
-  verdict : {r : BlocksAnswer} → BlocksDone v n t keys sizes r keys' sizes' → blocks_verdict r ≡ wanted (judged v n t)
+  verdict : {r : Result ℕ Refusal} → BlocksDone v n t keys sizes r keys' sizes' → blocks_verdict r ≡ wanted (judged v n t)
   verdict {r} h = answer_tells_verdict (0 ∷ []) (blocks_verdict r) (wanted (judged v n t)) h.answer
 
-  pub blocks_refused : {x : Refusal} → BlocksDone v n t keys sizes (Refused x) keys' sizes' → judged v n t ≡ refused x
+  pub blocks_refused : {x : Refusal} → BlocksDone v n t keys sizes (Err x) keys' sizes' → judged v n t ≡ refused x
   blocks_refused {x} h = go (judged v n t) (verdict h)
     where
       go : (j : Verdict (List Element)) → refused x ≡ wanted j → j ≡ refused x
-      go (accepted es) e = let z : ◌≡◌ {A = ℕ} 0 1 = cc in absurd (omega arith)
+      go (accepted es) e = cc
       go (refused y) e = let z : x ≡ y = cc in ap refused (sym z)
 
-  pub blocks_cut : {r : ℕ} → BlocksDone v n t keys sizes (Done r) keys' sizes' → BlocksCut v n t keys sizes r keys' sizes'
+  pub blocks_cut : {r : ℕ} → BlocksDone v n t keys sizes (Ok r) keys' sizes' → BlocksCut v n t keys sizes r keys' sizes'
   blocks_cut {r} h = go (judged v n t) refl (verdict h)
     where
       go : (j : Verdict (List Element)) → judged v n t ≡ j → accepted (r ∷ []) ≡ wanted j → BlocksCut v n t keys sizes r keys' sizes'
@@ -73,7 +66,7 @@ module _ {v n : ℕ} {t keys sizes keys' sizes' : List ℕ} where
         keys_laid = rw p at h.keys_laid;
         sizes_laid = rw p at h.sizes_laid;
       }
-      go (refused y) p e = let z : ◌≡◌ {A = ℕ} 0 1 = cc in absurd (omega arith)
+      go (refused y) p e = cc
 
 -- ---- how long the arrays are
 

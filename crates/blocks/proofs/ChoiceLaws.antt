@@ -1,40 +1,24 @@
 -- The choice of far diagonals, face by face.
 -- Assumes nothing.
-use mathlib.Core.Path.{◌≡◌, refl, sym, ◌∙◌}
-use mathlib.Core.Bool.{Bool, true, false, cond}
-use mathlib.Core.List.{List, [], ◌∷◌}
-use Prim.Native.Nat.{ℕ, ◌+◌, ◌*◌, ◌≤◌}
-use native.Mathlib.Nat.{zero-add}
-use native.Mathlib.Omega.{arith}
-use Rattle.solids.specs.Solids.{Face, holds}
+use Rattle.std.proofs.Common.{◌≡◌, refl, sym, ap, ◌∙◌, Bool, true, false, cond, List, [], ◌∷◌, ℕ, zero, suc, ◌+◌, ◌-◌, ◌*◌, ◌≤◌, ◌<◌, length, drop, get_or, arith, length-drop}
+use Rattle.solids.specs.declared.Solid.TheVariants.{Hexahedron}
+use Rattle.solids.specs.Solids.{Face, three, holds, element, faces_of}
 use Rattle.solids.specs.Cut.{lowest_first, on_diagonal}
+use Rattle.faces.proofs.FaceLaws.{faces_from}
 use Rattle.blocks.specs.BlockLoops.{choice, with_bit}
 
-module _ (low high : ℕ) (F : Face ℕ) (n : ℕ) where
-  pub bit_near : holds low F ≡ true → n ≡ with_bit low high F n
-  unfolding with_bit
-  bit_near h = rw h
-
-  pub bit_through : holds low F ≡ false → on_diagonal high (lowest_first F) ≡ true → 1 + 2 * n ≡ with_bit low high F n
-  unfolding with_bit
-  bit_through h e = rw (h, e)
-
-  pub bit_beside : holds low F ≡ false → on_diagonal high (lowest_first F) ≡ false → 2 * n ≡ with_bit low high F n
-  unfolding with_bit
-  bit_beside h e = rw (h, e, zero-add)
-
+module _ (low high : ℕ) where
   -- at most one binary digit more
-  pub bit_most : with_bit low high F n ≤ 1 + 2 * n
+  bit_most : (F : Face ℕ) (n : ℕ) → with_bit low high F n ≤ 1 + 2 * n
   unfolding with_bit
-  bit_most = go (holds low F) (on_diagonal high (lowest_first F))
+  bit_most F n = go (holds low F) (on_diagonal high (lowest_first F))
     where
       go : (b c : Bool) → cond b n (cond c 1 0 + 2 * n) ≤ 1 + 2 * n
       go true c = omega arith
       go false true = omega arith
       go false false = omega arith
 
-module _ (low high : ℕ) where
-  pub choice-next : (F : Face ℕ) (fs : List (Face ℕ)) → choice low high (F ∷ fs) ≡ with_bit low high F (choice low high fs)
+  choice-next : (F : Face ℕ) (fs : List (Face ℕ)) → choice low high (F ∷ fs) ≡ with_bit low high F (choice low high fs)
   unfolding choice with_bit
   choice-next F fs = go (holds low F) refl
     where
@@ -42,26 +26,37 @@ module _ (low high : ℕ) where
       go true e = rw e
       go false e = rw e
 
-  -- one face more in front, read by the code
-  pub choice_more : (G : Face ℕ) (fs : List (Face ℕ)) {F : Face ℕ} {n m : ℕ} → m ≡ with_bit low high F n → F ≡ G → n ≡ choice low high fs → m ≡ choice low high (G ∷ fs)
-  choice_more G fs e f h = e ∙ (λ i. with_bit low high (f i) (h i)) ∙ sym (choice-next G fs)
-
   pub choice-none : 0 ≡ choice low high []
   unfolding choice
   choice-none = refl
 
--- a number that is the choice of these faces, and not above a bound
-pub record Chosen (low high : ℕ) (fs : List (Face ℕ)) (most n : ℕ) : Type 0 where
-  pub same : n ≡ choice low high fs
-  pub few : n ≤ most
+  -- the greatest number of so many binary digits
+  abbrev most : ℕ → ℕ
+  most zero = 0
+  most (suc n) = 1 + 2 * most n
 
-pub chosen_none : (low high : ℕ) → Chosen low high [] 0 0
-chosen_none low high = record { same = choice-none low high; few = omega arith }
+  choice_most : (fs : List (Face ℕ)) → choice low high fs ≤ most (length fs)
+  choice_most [] = omega (arith, choice-none)
+  choice_most (F ∷ fs) = omega (arith, choice-next F fs, bit_most F (choice low high fs), choice_most fs)
 
--- with one face more in front, as the code reads it
-pub chosen_more : {low high : ℕ} {G : Face ℕ} {fs : List (Face ℕ)} {most n : ℕ} → Chosen low high fs most n → {F : Face ℕ} → F ≡ G → {m : ℕ} → m ≡ with_bit low high F n
-    → Chosen low high (G ∷ fs) (1 + 2 * most) m
-chosen_more {low} {high} {G} {fs} {n} h {F} f e = record {
-  same = choice_more low high G fs e f h.same;
-  few = omega (arith, e, bit_most low high F n, h.few);
-}
+  most-le : (m n : ℕ) → m ≤ n → most m ≤ most n
+  most-le zero n h = omega arith
+  most-le (suc m) zero h = absurd (omega arith)
+  most-le (suc m) (suc n) h = omega (arith, most-le m n (omega arith))
+
+  -- the choice of the faces of a hexahedron from i on
+  module _ (vs : List ℕ) (i : ℕ) where
+    pub choice-few : {n : ℕ} → n ≡ choice low high (drop i (faces_of (element Hexahedron vs))) → n < 64
+    choice-few e =
+        let fs : List (Face ℕ) = drop i (faces_of (element Hexahedron vs)) in
+        let few : length fs ≤ 6 = omega (arith, length-drop i (faces_of (element Hexahedron vs))) in
+        omega (arith, e, choice_most fs, most-le (length fs) 6 few)
+
+    module _ (h : 0 < i) (up : i ≤ 6) where
+      pub choice-step : {F : Face ℕ} → F ≡ get_or (faces_of (element Hexahedron vs)) (i - 1) (three 0 0 0) → {n : ℕ} → n ≡ choice low high (drop i (faces_of (element Hexahedron vs)))
+          → with_bit low high F n ≡ choice low high (drop (i - 1) (faces_of (element Hexahedron vs)))
+      choice-step {F} f e =
+          let s : suc (i - 1) ≡ i = omega arith in
+          ap (with_bit low high F) e
+          ∙ sym (choice-next F (drop i (faces_of (element Hexahedron vs))))
+          ∙ ap (choice low high) (sym (faces_from Hexahedron vs (i - 1) (omega arith) f ∙ ap (λ (j : ℕ). F ∷ drop j (faces_of (element Hexahedron vs))) s))

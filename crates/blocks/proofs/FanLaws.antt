@@ -1,16 +1,17 @@
 -- The fan, face by face.
 -- Assumes nothing.
-use mathlib.Core.Path.{◌≡◌, refl}
-use mathlib.Core.Bool.{Bool, true, false, cond, not}
-use mathlib.Core.List.{List, [], ◌∷◌, ◌++◌, map, map-append}
-use Prim.Native.Nat.{ℕ, zero, suc, ◌≤◌}
+use Rattle.std.proofs.Common.{◌≡◌, refl, sym, ap, ◌∙◌, Bool, true, false, cond, not, List, [], ◌∷◌, ◌++◌, map, ℕ, zero, suc, ◌+◌, ◌-◌, ◌≤◌, ◌<◌, length, drop, get_or, arith, length-append}
+use mathlib.Core.List.{map-append}
 use native.Mathlib.Nat.{le_refl}
-use native.Mathlib.Omega.{arith}
-use lib.ListN.{length, drop, length-append}
+use lib.ListN.{length-map, drop_of_length-le}
 use Rattle.laws.specs.Words.{keep, gather}
-use Rattle.solids.specs.Solids.{Face, Tet, holds}
-use Rattle.solids.specs.Cut.{cut_face, follow}
-use Rattle.blocks.specs.BlockLoops.{face_tets}
+use Rattle.solids.specs.declared.Solid.{Solid}
+use Rattle.solids.specs.Solids.{Face, three, Tet, holds, element, faces, face_count, faces_of, at, on_face}
+use Rattle.solids.specs.Cut.{cut_face, follow, in_order}
+use Rattle.solids.proofs.CountLaws.{length-in_order}
+use Rattle.faces.proofs.FaceLaws.{faces_from}
+use Rattle.blocks.specs.BlockLoops.{face_tets, joined}
+use Rattle.blocks.proofs.BlockLaws.{joined-in_order}
 
 module _ (v : ℕ) where
   -- a vertex followed by each triangle of the cut faces that do not hold it
@@ -39,3 +40,34 @@ module _ (v : ℕ) where
   pub far_tets : (F : Face ℕ) → holds v F ≡ false → face_tets v F ≡ map (follow v) (cut_face F)
   unfolding face_tets
   far_tets F e = rw e
+
+-- the faces of an element, from the last to the first
+module _ (s : Solid) (vs : List ℕ) (v : ℕ) where
+  -- the fan over the faces from i on
+  abbrev pub fan_from : ℕ → List (Tet ℕ)
+  fan_from i = fan_over v (drop i (faces_of (element s vs)))
+
+  pub fan_from-end : (n : ℕ) → n ≡ face_count s → fan_from n ≡ []
+  fan_from-end n e =
+      ap (fan_over v) (drop_of_length-le (faces_of (element s vs)) {i = n} (rw (length-map (faces s) (on_face (at vs)), e) (le_refl (face_count s))))
+
+  module _ (i : ℕ) (h : 0 < i) (up : i ≤ face_count s) {F : Face ℕ} (f : F ≡ get_or (faces_of (element s vs)) (i - 1) (three 0 0 0)) where
+    fan_from-more : fan_from (i - 1) ≡ face_tets v F ++ fan_from i
+    fan_from-more =
+        let e : suc (i - 1) ≡ i = omega arith in
+        ap (fan_over v) (faces_from s vs (i - 1) (omega arith) f ∙ ap (λ (j : ℕ). F ∷ drop j (faces_of (element s vs))) e)
+        ∙ fan-next v F (drop i (faces_of (element s vs)))
+
+    module _ {ts : List (Tet ℕ)} (b : ts ≡ in_order (fan_from i)) where
+      -- there is room for the tetrahedra of one face more
+      pub fan-room : length (fan_from 0) ≤ 6 → length ts + length (face_tets v F) ≤ 6
+      fan-room few =
+          omega (
+            arith,
+            ap length fan_from-more ∙ length-append (face_tets v F) (fan_from i),
+            ap length b ∙ length-in_order (fan_from i),
+            fan-drop v (i - 1) (faces_of (element s vs)),
+          )
+
+      pub fan-step : joined (face_tets v F) ts ≡ in_order (fan_from (i - 1))
+      fan-step = ap (joined (face_tets v F)) b ∙ joined-in_order (face_tets v F) (fan_from i) ∙ ap in_order (sym fan_from-more)

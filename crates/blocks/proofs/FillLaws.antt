@@ -1,12 +1,11 @@
 -- The keys and the sizes of a table, element by element.
 -- Assumes nothing.
-use mathlib.Core.Path.{◌≡◌, refl, sym, ap, ◌∙◌}
-use mathlib.Core.List.{List, [], ◌∷◌, ◌++◌, append-nil, map, map-append}
-use Prim.Native.Nat.{ℕ, ◌+◌, ◌≤◌}
+use Rattle.std.proofs.Common.{◌≡◌, refl, sym, ap, ◌∙◌, List, [], ◌∷◌, ◌++◌, map, ℕ, ◌+◌, ◌≤◌, length, take, drop, set, arith, add-one, length-append}
+use mathlib.Core.List.{append-nil, map-append}
 use native.Mathlib.Nat.{zero-add}
-use native.Mathlib.Numerals.{add-one}
-use native.Mathlib.Omega.{arith}
-use lib.ListN.{length, take, set, length-append, length-map}
+use borrow.Rule.Slice.PartMut.{put_mid}
+use lib.ListN.{length-map}
+use lib.Seq.{drop-drop}
 use Rattle.laws.specs.Lent.{placed}
 use Rattle.laws.proofs.LentLaws.{placed-placed, placed-sets, length-placed}
 use Rattle.laws.proofs.ListLaws.{gather_append}
@@ -14,20 +13,13 @@ use Rattle.solids.specs.Solids.{Tet}
 use Rattle.solids.specs.Cut.{cut, cut_mesh}
 use Rattle.records.specs.Record.{element_of, record_at, element_at, first_elements}
 use Rattle.records.proofs.Theorems.{first-length}
-use Rattle.tets.specs.Tets.{key_of, keyed}
-use Rattle.tets.proofs.Theorems.{key_again}
+use Rattle.tets.specs.Tets.{key_of}
 use Rattle.blocks.specs.Blocks.{keys_of, sizes_of}
-use Rattle.blocks.specs.BlockLoops.{tets_in, BlockIs}
 
--- the keys of keys' tetrahedra are the keys
-pub keys_again : (l : List ℕ) → map key_of (map keyed l) ≡ l
-keys_again [] = refl
-keys_again (k ∷ l) = λ i. key_again k i ∷ keys_again l i
-
--- the keys of a block are those of its tetrahedra
-pub block_keys : {b : List ℕ} {n : ℕ} {ts : List (Tet ℕ)} → BlockIs b n ts → take n b ≡ map key_of ts
-unfolding tets_in
-block_keys {b} {n} h = sym (keys_again (take n b)) ∙ ap (map key_of) h.same
+-- a part of a list that is written anew
+pub put-placed : (l : List ℕ) (at : ℕ) (b : List ℕ) {k : ℕ} → k ≡ length b → put_mid at k l b ≡ placed l at b
+unfolding placed
+put-placed l at b {k} e = ap (λ (x : List ℕ). take at l ++ (b ++ x)) (drop-drop k at l ∙ ap (λ (j : ℕ). drop (at + j) l) e)
 
 module _ (t : List ℕ) where
   -- the cut of the first k elements, and that of the element k

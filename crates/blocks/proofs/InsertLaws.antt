@@ -1,65 +1,83 @@
--- A turn of the loop that puts a key into a list: the one in hand is stored where it goes before what stands there, and that one then goes
--- on in its stead.
+-- A key that goes through ascending keys, where at each place the lower of the two stays and the greater goes on, ends at its place among them.
 -- Assumes nothing.
-use mathlib.Core.Path.{◌≡◌, refl, sym, ◌∙◌}
-use mathlib.Core.Bool.{Bool, true, false, ◌||◌}
-use mathlib.Core.List.{List, [], ◌∷◌, ◌++◌, map, map-append}
-use Prim.Native.Nat.{ℕ, suc, ◌≤◌, ◌<◌}
-use native.Mathlib.Nat.{le_refl}
-use native.Mathlib.Omega.{arith}
-use lib.ListN.{length, take, get_or, set}
-use lib.Seq.{slice, slice-cons, slice_empty, take-suc, take-suc-set, take-set-lt, drop-set-lt, append_snoc}
-use Rattle.solids.specs.Solids.{Tet, of_tet}
-use Rattle.solids.specs.Cut.{up_to, insert}
-use Rattle.solids.proofs.AscendingLaws.{clash}
-use Rattle.tets.specs.Tets.{keyed}
+use Rattle.std.proofs.Common.{◌≡◌, refl, sym, ap, ◌∙◌, Bool, true, false, cond, List, [], ◌∷◌, ◌++◌, map, ℕ, ◌+◌, ◌≤◌, ◌<◌, min, max, length, take, drop, set, get_or, arith, append_assoc, add-one, leb}
+use native.Mathlib.Nat.{min-eq_left, min-eq_right}
+use Rattle.std.proofs.Math.Nat.{max-eq_left, max-eq_right}
+use lib.Seq.{drop-cons, take_at}
+use borrow.Author.Tests.{leb-true, leb-false}
+use Rattle.std.proofs.lemmas.List.{take_more_set, drop-set-lt, take_all, drop_all}
+use Rattle.solids.specs.Cut.{insert}
+use Rattle.tets.specs.Tets.{key_of, keyed}
+use Rattle.tets.proofs.Theorems.{key_again, keys_compare}
+use Rattle.blocks.specs.BlockLoops.{AscendingFrom}
 
--- the one in hand put among the rest, before all of them if it made room for another
-abbrev put : Bool → Tet ℕ → List (Tet ℕ) → List (Tet ℕ)
-put true t us = t ∷ us
-put false t us = insert t us
+-- the keys of keys' tetrahedra are the keys
+pub keys_again : (l : List ℕ) → map key_of (map keyed l) ≡ l
+keys_again [] = refl
+keys_again (k ∷ l) = λ i. key_again k i ∷ keys_again l i
 
-put_goes : (m : Bool) (t u : Tet ℕ) (us : List (Tet ℕ)) → (m || up_to (of_tet t) (of_tet u)) ≡ true → put m t (u ∷ us) ≡ t ∷ (u ∷ us)
-put_goes true t u us e = refl
-put_goes false t u us e = rw e
+-- what a key that goes through keys makes of them
+abbrev pub swept : ℕ → List ℕ → List ℕ
+swept k [] = k ∷ []
+swept k (x ∷ xs) = min k x ∷ swept (max k x) xs
 
-put_stays : (m : Bool) (t u : Tet ℕ) (us : List (Tet ℕ)) → (m || up_to (of_tet t) (of_tet u)) ≡ false → put m t (u ∷ us) ≡ u ∷ put m t us
-put_stays true t u us e = clash refl e
-put_stays false t u us e = rw e
+-- one place more
+pub swept-more : (k : ℕ) (xs : List ℕ) (i : ℕ) → i < length xs → {m n : ℕ} → m ≡ min k (get_or xs i 0) → n ≡ max k (get_or xs i 0)
+    → take i xs ++ swept k (drop i xs) ≡ take (i + 1) (set xs i m) ++ swept n (drop (i + 1) (set xs i m))
+swept-more k xs i h {m} {n} p q =
+    rw (take_more_set xs i m h, drop-set-lt (i + 1) xs i m (omega arith))
+    (ap (λ (l : List ℕ). take i xs ++ swept k l) (drop-cons xs i 0 h ∙ ap (λ (j : ℕ). get_or xs i 0 ∷ drop j xs) (sym (add-one i)))
+    ∙ (λ j. take i xs ++ (sym p j ∷ swept (sym q j) (drop (i + 1) xs)))
+    ∙ sym (append_assoc (take i xs) (m ∷ []) (swept n (drop (i + 1) xs))))
 
-put_last : (m : Bool) (t : Tet ℕ) → put m t [] ≡ t ∷ []
-put_last true t = refl
-put_last false t = refl
+-- ---- ascending keys
 
--- what the first n will be, and one more, with t in hand at the place i
-abbrev pub ahead : List ℕ → ℕ → Bool → ℕ → ℕ → List (Tet ℕ)
-ahead l t m i n = map keyed (take i l) ++ put m (keyed t) (map keyed (slice i n l))
+from-lower : (b c : ℕ) (xs : List ℕ) → b ≤ c → AscendingFrom c xs → AscendingFrom b xs
+from-lower b c [] h a = tt
+from-lower b c (x ∷ xs) h a = (omega (arith, a.0), a.1)
 
-module _ (l : List ℕ) (t d : ℕ) (m : Bool) (i n : ℕ) (h : i < n) (k : n ≤ length l) where
-  abbrev u : ℕ
-  u = get_or l i d
+from-swept : (b k : ℕ) (xs : List ℕ) → b ≤ k → AscendingFrom b xs → AscendingFrom b (swept k xs)
+from-swept b k [] h a = (h, tt)
+from-swept b k (x ∷ xs) h a = (omega (arith, a.0), from-swept (min k x) (max k x) xs (omega arith) (from-lower (min k x) x xs (omega arith) a.1))
 
-  abbrev rest : List (Tet ℕ)
-  rest = map keyed (slice (suc i) n l)
+-- a key that is below them all comes first
+swept-first : (k : ℕ) (xs : List ℕ) → AscendingFrom k xs → swept k xs ≡ k ∷ xs
+swept-first k [] a = refl
+swept-first k (x ∷ xs) a = rw (min-eq_left a.0, max-eq_right a.0) (ap (λ (l : List ℕ). k ∷ l) (swept-first x xs a.1))
 
-  slice_set : slice (suc i) n (set l i t) ≡ slice (suc i) n l
-  slice_set = rw (take-set-lt n l i t h) (drop-set-lt (suc i) (take n l) i t (le_refl (suc i)))
+-- the tetrahedron of the key is put at its place
+swept-insert : (b k : ℕ) (xs : List ℕ) → AscendingFrom b xs → map keyed (swept k xs) ≡ insert (keyed k) (map keyed xs)
+swept-insert b k [] a = refl
+swept-insert b k (x ∷ xs) a = rw (keys_compare k x) (go (leb k x) refl (swept-insert x k xs a.1))
+  where
+    go : (c : Bool) → leb k x ≡ c → map keyed (swept k xs) ≡ insert (keyed k) (map keyed xs)
+        → map keyed (swept k (x ∷ xs)) ≡ cond c (keyed k ∷ (keyed x ∷ map keyed xs)) (keyed x ∷ insert (keyed k) (map keyed xs))
+    go true e ih =
+        let h = leb-true k x e in
+        rw (min-eq_left h, max-eq_right h, swept-first x xs a.1)
+    go false e ih =
+        let h = leb-false k x e in
+        let l : x ≤ k = omega arith in
+        rw (min-eq_right l, max-eq_left l) (ap (λ ts. keyed x ∷ ts) ih)
 
-  next : ahead l t m i n ≡ map keyed (take i l) ++ put m (keyed t) (keyed u ∷ rest)
-  next = rw (slice-cons i n l d h k)
+-- a key k₀ that has gone through the first n of ascending keys l: those are xs now, and k is in hand
+pub record Through (l : List ℕ) (n k₀ : ℕ) (xs : List ℕ) (k i : ℕ) : Type 0 where
+  pub ascending : AscendingFrom 0 (take n l)
+  pub same : swept k₀ (take n l) ≡ take i xs ++ swept k (drop i xs)
+  pub many : length xs ≡ n
+  pub end : n ≤ i
+  pub long : n < length (xs ++ drop n l)
 
-  pub ahead_goes : (m || up_to (of_tet (keyed t)) (of_tet (keyed u))) ≡ true → ahead l t m i n ≡ ahead (set l i t) u true (suc i) n
-  ahead_goes e =
-      next
-      ∙ rw (put_goes m (keyed t) (keyed u) rest e, take-suc-set l i t (omega arith), slice_set, map-append keyed (take i l) (t ∷ []))
-      (sym (append_snoc (map keyed (take i l)) (keyed t) (keyed u ∷ rest)))
+-- with the one in hand stored behind them
+module _ {l : List ℕ} {n k₀ : ℕ} {xs : List ℕ} {k i : ℕ} (h : Through l n k₀ xs k i) where
+  all-swept : take (n + 1) (set (xs ++ drop n l) n k) ≡ swept k₀ (take n l)
+  all-swept =
+      take_more_set (xs ++ drop n l) n k h.long
+      ∙ ap (λ (z : List ℕ). z ++ (k ∷ [])) (take_at xs (drop n l) n h.many)
+      ∙ sym (h.same ∙ rw (take_all i xs (omega (arith, h.many, h.end)), drop_all i xs (omega (arith, h.many, h.end))))
 
-  pub ahead_stays : (m || up_to (of_tet (keyed t)) (of_tet (keyed u))) ≡ false → ahead l t m i n ≡ ahead l t m (suc i) n
-  ahead_stays e =
-      next
-      ∙ rw (put_stays m (keyed t) (keyed u) rest e, take-suc l i d (omega arith), map-append keyed (take i l) (u ∷ []))
-      (sym (append_snoc (map keyed (take i l)) (keyed u) (put m (keyed t) rest)))
+  pub all-inserted : map keyed (take (n + 1) (set (xs ++ drop n l) n k)) ≡ insert (keyed k₀) (map keyed (take n l))
+  all-inserted = ap (map keyed) all-swept ∙ swept-insert 0 k₀ (take n l) h.ascending
 
-pub ahead_end : (l : List ℕ) (t : ℕ) (m : Bool) (n : ℕ) → n < length l → ahead l t m n n ≡ map keyed (take (suc n) (set l n t))
-ahead_end l t m n k =
-    rw (slice_empty n l, put_last m (keyed t), take-suc-set l n t k, map-append keyed (take n l) (t ∷ []))
+  pub all-ascending : AscendingFrom 0 (take (n + 1) (set (xs ++ drop n l) n k))
+  all-ascending = rw all-swept (from-swept 0 k₀ (take n l) (omega arith) h.ascending)

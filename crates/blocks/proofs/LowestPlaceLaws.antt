@@ -1,72 +1,46 @@
--- The lowest number of a list and its place, found from the last number on.
+-- The place of the lowest number of a list: that of the first number which no other is below.
 -- Assumes nothing.
-use mathlib.Core.Path.{◌≡◌, refl, sym, ap, ◌∙◌}
-use mathlib.Core.List.{List, [], ◌∷◌}
-use Prim.Native.Nat.{ℕ, zero, suc, ◌+◌, ◌-◌, ◌≤◌, ◌<◌, min}
-use native.Mathlib.Nat.{not-suc-le-zero, min-eq_left, min-eq_right, zero-add}
-use native.Mathlib.Omega.{arith}
-use lib.ListN.{length, drop, length-drop, drop_of_length-le}
-use lib.Seq.{drop-cons}
-use borrow.Author.Tests.{eq-eqb, ne_eqb}
+use Rattle.std.proofs.Common.{◌≡◌, ◌≢◌, sym, ap, List, [], ◌∷◌, Bool, ℕ, zero, suc, ◌+◌, ◌≤◌, ◌<◌, length, get_or, arith, ltb}
+use Rattle.std.specs.List.{IsFirstBest}
+use Rattle.std.specs.Cmp.{IsStrictWeakOrder}
+use Rattle.std.proofs.lemmas.List.MinMax.{IsStrictWeakOrder-by_number}
+use borrow.Author.Tests.{eq-eqb, ne_eqb, ltb-false, ltb-true}
 use Rattle.laws.specs.Words.{lowest}
-use Rattle.solids.specs.Solids.{at}
 use Rattle.solids.specs.Cut.{place_of, first}
 
--- of the numbers behind the first i, m is the lowest, and p is its place among all
-pub record Found (vs : List ℕ) (p m i : ℕ) : Type 0 where
-  pub within : i < length vs
-  pub number : m ≡ lowest (drop i vs)
-  pub place : p ≡ i + place_of m (drop i vs)
+-- whether a number is below another
+abbrev pub below : ℕ → ℕ → Bool
+below x y = ltb x y
 
-lowest_more : (v : ℕ) (l : List ℕ) → 0 < length l → lowest (v ∷ l) ≡ min v (lowest l)
-lowest_more v [] h = absurd (not-suc-le-zero h)
-lowest_more v (w ∷ ws) h = refl
+pub order : IsStrictWeakOrder below
+order = IsStrictWeakOrder-by_number (λ x. x)
 
-module _ (vs : List ℕ) where
-  here : (i : ℕ) → i < length vs → drop i vs ≡ at vs (suc i) ∷ drop (suc i) vs
-  here i h = drop-cons vs i 0 h
+-- the first place of a number
+place-at : (m : ℕ) (vs : List ℕ) (b : ℕ) → b < length vs → get_or vs b 0 ≡ m → ((k : ℕ) → k < b → get_or vs k 0 ≢ m) → place_of m vs ≡ suc b
+place-at m [] b h e n = absurd (omega arith)
+place-at m (v ∷ vs) zero h e n = rw (eq-eqb m v (sym e))
+place-at m (v ∷ vs) (suc b) h e n = rw (ne_eqb m v (λ q. n 0 (omega arith) (sym q))) (ap suc (place-at m vs b (omega arith) e (λ k l. n (suc k) (omega arith))))
 
-  -- the last alone
-  pub found_last : (n : ℕ) → length vs ≡ n → 0 < n → {m : ℕ} → m ≡ at vs n → Found vs n m (n - 1)
-  found_last zero e h q = absurd (not-suc-le-zero h)
-  found_last (suc k) e h {m} q =
-      let s : suc k - 1 ≡ k = omega arith in
-      let d : drop k vs ≡ m ∷ [] = here k (omega arith) ∙ rw (← q, drop_of_length-le vs {i = suc k} (omega arith)) in
-      rw s record {
-        within = omega arith;
-        number = rw d;
-        place = rw (d, eq-eqb m m refl) (omega arith);
-      }
+-- no number is below the lowest
+lowest-le : (vs : List ℕ) (k : ℕ) → k < length vs → lowest vs ≤ get_or vs k 0
+lowest-le [] k h = absurd (omega arith)
+lowest-le (v ∷ []) zero h = omega arith
+lowest-le (v ∷ []) (suc k) h = absurd (omega arith)
+lowest-le (v ∷ (w ∷ ws)) zero h = omega arith
+lowest-le (v ∷ (w ∷ ws)) (suc k) h = let l = lowest-le (w ∷ ws) k (omega arith) in omega arith
 
-  module _ {p m : ℕ} where
-    -- one more in front, not above the lowest so far
-    pub found_lower : (i : ℕ) → Found vs p m i → 0 < i → {v : ℕ} → v ≡ at vs i → v ≤ m → Found vs i v (i - 1)
-    found_lower zero f h e l = absurd (not-suc-le-zero h)
-    found_lower (suc j) f h {v} e l =
-        let s : suc j - 1 ≡ j = omega arith in
-        let w : suc j < length vs = f.within in
-        let d : drop j vs ≡ v ∷ drop (suc j) vs = here j (omega arith) ∙ rw (← e) in
-        let n : m ≡ lowest (drop (suc j) vs) = f.number in
-        rw s record {
-          within = omega arith;
-          number = rw (d, lowest_more v (drop (suc j) vs) (rw (length-drop (suc j) vs) (omega arith)), ← n) (sym (min-eq_left l));
-          place = rw (d, eq-eqb v v refl) (omega arith);
-        }
+-- a number that none is below is not above the lowest
+le-lowest : (x : ℕ) (vs : List ℕ) → 0 < length vs → ((k : ℕ) → k < length vs → x ≤ get_or vs k 0) → x ≤ lowest vs
+le-lowest x [] h l = absurd (omega arith)
+le-lowest x (v ∷ []) h l = l 0 (omega arith)
+le-lowest x (v ∷ (w ∷ ws)) h l = let a = l 0 (omega arith) in let b = le-lowest x (w ∷ ws) (omega arith) (λ k q. l (suc k) (omega arith)) in omega arith
 
-    -- one more in front, above it
-    pub found_higher : (i : ℕ) → Found vs p m i → 0 < i → {v : ℕ} → v ≡ at vs i → m < v → Found vs p m (i - 1)
-    found_higher zero f h e l = absurd (not-suc-le-zero h)
-    found_higher (suc j) f h {v} e l =
-        let s : suc j - 1 ≡ j = omega arith in
-        let w : suc j < length vs = f.within in
-        let d : drop j vs ≡ v ∷ drop (suc j) vs = here j (omega arith) ∙ rw (← e) in
-        let n : m ≡ lowest (drop (suc j) vs) = f.number in
-        let q : p ≡ suc j + place_of m (drop (suc j) vs) = f.place in
-        rw s record {
-          within = omega arith;
-          number = rw (d, lowest_more v (drop (suc j) vs) (rw (length-drop (suc j) vs) (omega arith)), ← n) (sym (min-eq_right (omega arith)));
-          place = rw (d, ne_eqb m v (omega arith)) (omega arith);
-        }
-
-  pub found_first : {p m : ℕ} → Found vs p m 0 → p ≡ first vs
-  found_first f = f.place ∙ zero-add _ ∙ ap (λ (n : ℕ). place_of n vs) f.number
+-- the place of the first of the lowest numbers
+pub first-best : (vs : List ℕ) (b : ℕ) → IsFirstBest below vs (length vs) b → b + 1 ≡ first vs
+first-best vs b h =
+    let up : (k : ℕ) → k < length vs → get_or vs b 0 ≤ get_or vs k 0 = λ k l. ltb-false (get_or vs k 0) (get_or vs b 0) (h.1 k 0 l) in
+    let low : lowest vs ≤ get_or vs b 0 = lowest-le vs b h.0 in
+    let high : get_or vs b 0 ≤ lowest vs = le-lowest (get_or vs b 0) vs (omega (arith, h.0)) up in
+    let e : place_of (lowest vs) vs ≡ suc b =
+    place-at (lowest vs) vs b h.0 (omega arith) (λ k l q. let a = ltb-true (get_or vs b 0) (get_or vs k 0) (h.2 k 0 l) in omega arith) in
+    omega arith

@@ -1,64 +1,51 @@
 -- The cut of a whole record's element: by its row if it is a hexahedron, by the fan if it is not; at most six tetrahedra.
 -- Assumes nothing.
-use mathlib.Core.Path.{◌≡◌, sym, ap, ◌∙◌, subst}
-use mathlib.Core.List.{List}
-use Prim.Native.Nat.{ℕ, ◌≤◌}
-use native.Mathlib.Omega.{arith}
+use Rattle.std.proofs.Common.{◌≡◌, refl, sym, ap, ◌∙◌, subst, ℕ, ◌≤◌, List, length, arith}
 use lib.Dec.{T}
-use lib.ListN.{length}
-use Rattle.solids.specs.declared.Solid.TheVariants.{Hexahedron}
-use Rattle.solids.specs.Solids.{element}
+use Rattle.solids.specs.declared.Solid.{Solid}
+use Rattle.solids.specs.declared.Solid.TheVariants.{Tetrahedron, Pyramid, Prism, Hexahedron}
+use Rattle.solids.specs.Solids.{Element, element}
 use Rattle.solids.specs.Cut.{fan, tets_of, in_order, cut}
 use Rattle.solids.specs.Rows.{cut_by_row}
 use Rattle.solids.specs.Fit.{proper}
 use Rattle.solids.proofs.ShapeLaws.{from_proper}
 use Rattle.solids.proofs.RowLaws.{rows_agree}
 use Rattle.solids.proofs.CountLaws.{length-in_order, proper_six}
-use Rattle.records.specs.Record.{kind_of, used_of, solid_of, element_of}
+use Rattle.records.specs.Record.{element_of}
 use Rattle.records.specs.WholeRecords.{Whole}
-use Rattle.records.proofs.RecordLaws.{IsOne, is_4, is_5, is_6, is_8, which_kind, whole-proper}
+use Rattle.records.proofs.RecordLaws.{whole-proper}
+use Rattle.blocks.specs.BlockLoops.{Cornered}
+use Rattle.blocks.proofs.CornerLaws.{proper_cornered}
 
-module _ (r : List ℕ) (w : Whole r) where
-  -- its corners are those of a proper element
-  pub used_proper : T (proper (element (solid_of (kind_of r)) (used_of r)))
-  unfolding element_of
-  used_proper = whole-proper r w
+-- at most six tetrahedra
+pub cut-few : (r : List ℕ) → Whole r → length (cut (element_of r)) ≤ 6
+cut-few r w = proper_six (element_of r) (whole-proper r w)
 
-  -- at most six tetrahedra
-  pub cut-few : length (cut (element_of r)) ≤ 6
-  cut-few = proper_six (element_of r) (whole-proper r w)
+-- a record's element that the code has read as a solid with corners
+module _ (r : List ℕ) (w : Whole r) {s : Solid} {vs : List ℕ} (e : element s vs ≡ element_of r) where
+  is_proper : T (proper (element s vs))
+  is_proper = subst (λ (x : Element). T (proper x)) (sym e) (whole-proper r w)
 
-  module _ (e : kind_of r ≡ 8) where
-    is_hexahedron : solid_of (kind_of r) ≡ Hexahedron
-    unfolding solid_of
-    is_hexahedron = rw e
+  pub is_cornered : Cornered vs
+  is_cornered = proper_cornered s vs is_proper
 
-    pub hexahedron_proper : T (proper (element Hexahedron (used_of r)))
-    hexahedron_proper = subst (λ s. T (proper (element s (used_of r)))) is_hexahedron used_proper
+  module _ (h : s ≡ Hexahedron) where
+    pub hexahedron_proper : T (proper (element Hexahedron vs))
+    hexahedron_proper = subst (λ (x : Solid). T (proper (element x vs))) h is_proper
 
-    pub cut_by_row_lem : cut_by_row (used_of r) ≡ cut (element_of r)
-    unfolding element_of
-    cut_by_row_lem = rows_agree (used_of r) (from_proper Hexahedron (used_of r) hexahedron_proper) ∙ ap (λ s. cut (element s (used_of r))) (sym is_hexahedron)
+    pub by_row : cut_by_row vs ≡ cut (element_of r)
+    by_row = rows_agree vs (from_proper Hexahedron vs hexahedron_proper) ∙ ap (λ (x : Solid). cut (element x vs)) (sym h) ∙ ap cut e
 
-  module _ (e : kind_of r ≡ 8 → ⊥) where
-    tets-fan : tets_of (element_of r) ≡ fan (element_of r)
-    unfolding element_of solid_of
-    tets-fan = go (which_kind (kind_of r) w.kind)
-      where
-        go : IsOne (kind_of r) → tets_of (element (solid_of (kind_of r)) (used_of r)) ≡ fan (element (solid_of (kind_of r)) (used_of r))
-        go (is_4 q) = rw q
-        go (is_5 q) = rw q
-        go (is_6 q) = rw q
-        go (is_8 q) = absurd (e q)
-
-    by_fan : in_order (fan (element_of r)) ≡ cut (element_of r)
+  module _ (h : s ≡ Hexahedron → ⊥) where
+    pub by_fan : in_order (fan (element s vs)) ≡ cut (element_of r)
     unfolding cut
-    by_fan = ap in_order (sym tets-fan)
+    by_fan = ap in_order (go s h) ∙ ap cut e
+      where
+        go : (x : Solid) → (x ≡ Hexahedron → ⊥) → fan (element x vs) ≡ tets_of (element x vs)
+        go Tetrahedron n = refl
+        go Pyramid n = refl
+        go Prism n = refl
+        go Hexahedron n = absurd (n refl)
 
-    pub cut_by_fan : in_order (fan (element (solid_of (kind_of r)) (used_of r))) ≡ cut (element_of r)
-    unfolding element_of
-    cut_by_fan = by_fan
-
-    pub fan-few : length (fan (element (solid_of (kind_of r)) (used_of r))) ≤ 6
-    unfolding element_of
-    fan-few = omega (arith, cut-few, ap length by_fan, length-in_order (fan (element_of r)))
+    pub fan_few : length (fan (element s vs)) ≤ 6
+    fan_few = omega (arith, cut-few r w, ap length by_fan, length-in_order (fan (element s vs)))

@@ -3,9 +3,9 @@
 use mathlib.Core.Path.{◌≡◌, sym, ap, ◌∙◌}
 use mathlib.Core.List.{List, [], ◌∷◌, map}
 use Prim.Native.Nat.{ℕ, ◌≤◌}
-use native.Mathlib.Omega.{arith}
 use lib.Dec.{T}
 use lib.ListN.{length, take}
+use Rattle.std.specs.Prelude.{Result, Ok, Err}
 use Rattle.limits.specs.Limits.{element_limit, tetrahedron_limit}
 use Rattle.laws.specs.Words.{every}
 use Rattle.faults.specs.declared.Refusal.{Refusal}
@@ -15,21 +15,19 @@ use Rattle.solids.specs.Solids.{Element}
 use Rattle.solids.specs.Cut.{cut_mesh}
 use Rattle.tets.specs.Tets.{keyed}
 use Rattle.judging.specs.Judge.{judged}
-use Rattle.blocks.specs.declared.BlocksAnswer.{BlocksAnswer}
-use Rattle.blocks.specs.declared.BlocksAnswer.TheVariants.{Done, Refused}
 use Rattle.blocks.specs.Blocks.{keys_of, sizes_of, numbered, blocks_verdict, BlocksDone, BlocksCut}
 use Rattle.blocks.proofs.BlocksAnswerLaws as A
 use Rattle.blocks.proofs.CutNumberLaws as N
 
 -- ---- uniqueness: two answers, and two pairs of arrays, that the contract allows are equal
 
-tells_blocks : (r s : BlocksAnswer) → blocks_verdict r ≡ blocks_verdict s → r ≡ s
-tells_blocks (Done c) (Done d) e = let z : c ≡ d = cc in ap Done z
-tells_blocks (Done c) (Refused y) e = let z : ◌≡◌ {A = ℕ} 0 1 = cc in absurd (omega arith)
-tells_blocks (Refused x) (Done d) e = let z : ◌≡◌ {A = ℕ} 0 1 = cc in absurd (omega arith)
-tells_blocks (Refused x) (Refused y) e = let z : x ≡ y = cc in ap Refused z
+tells_blocks : (r s : Result ℕ Refusal) → blocks_verdict r ≡ blocks_verdict s → r ≡ s
+tells_blocks (Ok c) (Ok d) e = let z : c ≡ d = cc in ap Ok z
+tells_blocks (Ok c) (Err y) e = cc
+tells_blocks (Err x) (Ok d) e = cc
+tells_blocks (Err x) (Err y) e = let z : x ≡ y = cc in ap Err z
 
-pub blocks_unique : (v n : ℕ) (t keys sizes : List ℕ) (r s : BlocksAnswer) (keys' keys'' sizes' sizes'' : List ℕ)
+pub blocks_unique : (v n : ℕ) (t keys sizes : List ℕ) (r s : Result ℕ Refusal) (keys' keys'' sizes' sizes'' : List ℕ)
     → BlocksDone v n t keys sizes r keys' sizes' → BlocksDone v n t keys sizes s keys'' sizes'' → (r ≡ s) × (keys' ≡ keys'') × (sizes' ≡ sizes'')
 blocks_unique v n t keys sizes r s keys' keys'' sizes' sizes'' p q = (
   tells_blocks r s (answer_tells_verdict (0 ∷ []) (blocks_verdict r) (blocks_verdict s) (p.answer ∙ sym q.answer)),
@@ -39,10 +37,10 @@ blocks_unique v n t keys sizes r s keys' keys'' sizes' sizes'' p q = (
 
 -- ---- what an answer tells of its table
 
-pub blocks_refused : {v n : ℕ} {t keys sizes keys' sizes' : List ℕ} {x : Refusal} → BlocksDone v n t keys sizes (Refused x) keys' sizes' → judged v n t ≡ refused x
+pub blocks_refused : {v n : ℕ} {t keys sizes keys' sizes' : List ℕ} {x : Refusal} → BlocksDone v n t keys sizes (Err x) keys' sizes' → judged v n t ≡ refused x
 blocks_refused = A.blocks_refused
 
-pub blocks_cut : {v n : ℕ} {t keys sizes keys' sizes' : List ℕ} {r : ℕ} → BlocksDone v n t keys sizes (Done r) keys' sizes' → BlocksCut v n t keys sizes r keys' sizes'
+pub blocks_cut : {v n : ℕ} {t keys sizes keys' sizes' : List ℕ} {r : ℕ} → BlocksDone v n t keys sizes (Ok r) keys' sizes' → BlocksCut v n t keys sizes r keys' sizes'
 blocks_cut = A.blocks_cut
 
 -- the count, both arrays' lengths, and what stands in their front

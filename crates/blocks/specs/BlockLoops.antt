@@ -1,12 +1,12 @@
 -- Shapes that only the private functions of the room want; proofs/FanLaws.antt, ChoiceLaws.antt, RowTetLaws.antt, BlockLaws.antt and
 -- FillLaws.antt say that they are what the page's definitions give.
-use Rattle.std.specs.Prelude.{◌≡◌, cond, not, List, [], ◌∷◌, map, ℕ, ◌+◌, ◌*◌, ◌≤◌, eqb, length, take}
+use Rattle.std.specs.Prelude.{◌≡◌, cond, not, List, [], ◌∷◌, map, ℕ, ◌+◌, ◌*◌, ◌≤◌, eqb, length}
 use Rattle.laws.specs.Words.{keep}
 use Rattle.laws.specs.Lent.{laid, placed}
 use Rattle.solids.specs.Solids.{Place, Vertex, Face, Tet, tet, Element, at, on_tet, holds}
 use Rattle.solids.specs.Cut.{lowest_first, cut_face, follow, on_diagonal, written, insert, cut_mesh}
 use Rattle.solids.specs.Rows.{binary, row_place}
-use Rattle.tets.specs.Tets.{key_of, keyed}
+use Rattle.tets.specs.Tets.{key_of}
 use Rattle.blocks.specs.Blocks.{keys_of, sizes_of}
 
 -- as many corners as a solid can have
@@ -16,31 +16,15 @@ pub record Cornered (vs : List Vertex) : Type 0 where
 
 -- ---- a block
 
--- the tetrahedra of the first n keys
-unfoldable pub tets_in : List ℕ → ℕ → List (Tet Vertex)
-tets_in keys n = map keyed (take n keys)
-
--- the first n keys are these tetrahedra, at most six
-pub record BlockIs (keys : List ℕ) (n : ℕ) (ts : List (Tet Vertex)) : Type 0 where
-  pub few : n ≤ 6
-  pub many : length ts ≡ n
-  pub same : tets_in keys n ≡ ts
+-- numbers in ascending order, none below a bound
+abbrev pub AscendingFrom : ℕ → List ℕ → Type 0
+AscendingFrom low [] = Unit {0}
+AscendingFrom low (x ∷ xs) = (low ≤ x) × AscendingFrom x xs
 
 -- tetrahedra, in their written form, put into a list that is in order, the last of them first
 abbrev pub joined : List (Tet Vertex) → List (Tet Vertex) → List (Tet Vertex)
 joined [] us = us
 joined (t ∷ ts) us = insert (written t) (joined ts us)
-
--- n keys with that of one tetrahedron more, at its place; there is room for six
-pub record Inserted (old : List ℕ) (n : ℕ) (t : Tet Vertex) (new : List ℕ) : Type 0 where
-  pub same : tets_in new (n + 1) ≡ insert t (tets_in old n)
-  pub wide : length new ≡ 6
-
--- n keys became r keys, those of these tetrahedra more; there is room for six
-pub record Grown (old : List ℕ) (n : ℕ) (ts : List (Tet Vertex)) (new : List ℕ) (r : ℕ) : Type 0 where
-  pub many : r ≡ n + length ts
-  pub same : tets_in new r ≡ joined ts (tets_in old n)
-  pub wide : length new ≡ 6
 
 -- a vertex followed by each triangle of a cut face, where the face does not hold it
 unfoldable pub face_tets : Vertex → Face Vertex → List (Tet Vertex)

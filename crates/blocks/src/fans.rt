@@ -1,58 +1,53 @@
 // The block of an element by the page's rule: its lowest corner, followed by each triangle of the cut faces that do not hold it.
 ghost use Rattle.std.specs.Prelude.{◌≡◌, map, ◌+◌, ◌≤◌, length};
-ghost use Rattle.solids.specs.Solids.{element};
 ghost use Rattle.solids.specs.Cut.{halves, follow, fan, in_order};
 ghost use Rattle.faces.specs.Faces.{face_of};
-ghost use Rattle.blocks.specs.BlockLoops.{Cornered, Grown, BlockIs, face_tets};
+ghost use Rattle.records.specs.Elements.{seen};
+ghost use Rattle.blocks.specs.BlockLoops.{Cornered, joined, face_tets};
 
-use crate::insertion::added;
-use crate::lowest::lowest_place;
+use crate::block::Block;
+use crate::lowest::lowest_corner;
 use faces::Face;
-use solids::{Solid, Vertex};
+use records::Element;
+use solids::Vertex;
 use tets::Tet;
 
-// A block of n with a vertex followed by each triangle of a face; how many they are then.
-fn with_triangles(keys: &mut [u64; 6], n: usize, v: Vertex, face: Face) -> usize
-    requires face_bound { n + length (halves (face_of face)) ≤ 6 }
-    requires keys_len { length keys.old ≡ 6 }
-    ensures { Grown keys.old n (map (follow v.0) (halves (face_of face))) keys.new result }
+// A vertex followed by each triangle of a face, added to a block.
+#[tactic(auto, using(crate::proofs::BlockLaws::length_insert))]
+fn add_triangles(block: &mut Block, v: Vertex, face: Face)
+    requires { length block.old + length (halves (face_of face)) ≤ 6 }
+    ensures { block.new ≡ joined (map (follow v.0) (halves (face_of face))) block.old }
 {
     match face {
-        Face::Three(p, q, r) => added(keys, n, Tet(v, p, q, r)),
+        Face::Three(p, q, r) => block.add(Tet(v, p, q, r)),
         Face::Four(p, q, r, s) => {
-            let later = added(keys, n, Tet(v, p, r, s));
-            added(keys, later, Tet(v, p, q, r))
+            block.add(Tet(v, p, r, s));
+            block.add(Tet(v, p, q, r));
         }
     }
 }
 
-// A block of n with the lowest corner followed by each triangle of a cut face, if that is far from it; how many they are then.
-fn with_face(keys: &mut [u64; 6], n: usize, low: Vertex, face: Face) -> usize
-    requires face_bound { n + length (face_tets low.0 (face_of face)) ≤ 6 }
-    requires keys_len { length keys.old ≡ 6 }
-    ensures { Grown keys.old n (face_tets low.0 (face_of face)) keys.new result }
+// The lowest corner followed by each triangle of a cut face, added to a block if the face is far from it.
+#[tactic(auto, using(crate::proofs::FanLaws::near_tets, crate::proofs::FanLaws::far_tets))]
+fn add_face(block: &mut Block, low: Vertex, face: Face)
+    requires { length block.old + length (face_tets low.0 (face_of face)) ≤ 6 }
+    ensures { block.new ≡ joined (face_tets low.0 (face_of face)) block.old }
 {
-    if faces::is_corner(low, face) {
-        return n;
+    if !faces::is_corner(low, face) {
+        add_triangles(block, low, faces::lowest_first(face));
     }
-    with_triangles(keys, n, low, faces::lowest_first(face))
 }
 
-// The lowest corner followed by each triangle of the cut faces that do not hold it; how many they are.
-pub fn fan_block(solid: Solid, corners: &[u16], keys: &mut [u64; 6]) -> usize
-    requires cornered { Cornered corners.now }
-    requires fan_bound { length (fan (element solid corners.now)) ≤ 6 }
-    requires keys_len { length keys.old ≡ 6 }
-    ensures { BlockIs keys.new result (in_order (fan (element solid corners.now))) }
+// The lowest corner followed by each triangle of the cut faces that do not hold it.
+pub fn fan_block(element: Element) -> Block
+    requires cornered { Cornered element.corners.now }
+    requires few { length (fan (seen element)) ≤ 6 }
+    ensures { result ≡ in_order (fan (seen element.entry)) }
 {
-    let low = faces::vertex_at(corners, lowest_place(corners));
-    let mut n = 0;
-    let mut i = places::face_count(solid);
-    while 0 < i {
-        i -= 1;
-        let face = faces::face_of(solid, corners, i);
-        let next = with_face(keys, n, low, face);
-        n = next;
+    let low = lowest_corner(element.corners);
+    let mut block = Block::new();
+    for i in (0..places::face_count(element.solid)).rev() {
+        add_face(&mut block, low, faces::face_of(element, i));
     }
-    n
+    block
 }

@@ -17,6 +17,7 @@ use limits::ELEMENT_WIDTH;
 use mesh::cut_mesh;
 use signs::sign_report;
 use text::read_mesh;
+use told::tell;
 use writing::{write_element, write_end, write_vertex};
 
 // Reads a file into two tables, three numbers a vertex and nine an element; the values are how many vertices and elements.
@@ -29,7 +30,7 @@ pub fn brine_read(
     ensures { ReadFront file.now vertices.old elements.old result answer.new vertices.new elements.new }
 {
     let read = read_mesh(file, vertices, elements);
-    told::tell(told::of_read(read), answer)
+    tell(read, answer)
 }
 
 // Judges a table of elements; no values.
@@ -42,7 +43,7 @@ pub fn brine_judge(
     ensures { JudgeFront vertex_count element_count elements.now result answer.new }
 {
     let judged = judge_mesh(vertex_count, element_count, elements);
-    told::tell(told::of_judge(judged), answer)
+    tell(judged, answer)
 }
 
 // Cuts a table of elements into tetrahedra, four numbers each; the value is how many.
@@ -56,7 +57,7 @@ pub fn brine_cut(
     ensures { CutFront vertex_count element_count elements.now tetrahedra.old result answer.new tetrahedra.new }
 {
     let cut = cut_mesh(vertex_count, element_count, elements, tetrahedra);
-    told::tell(told::of_cut(cut), answer)
+    tell(cut, answer)
 }
 
 // Counts the signs of the cut; the values are positive, zero and negative tetrahedra, and unsound elements.
@@ -70,7 +71,7 @@ pub fn brine_signs(
     ensures { SignFront vertex_count element_count elements.now vertices.now result answer.new }
 {
     let signs = sign_report(vertex_count, element_count, elements, vertices);
-    told::tell(told::of_signs(signs), answer)
+    tell(signs, answer)
 }
 
 // Writes the line of a vertex; the value is its length.
@@ -78,7 +79,7 @@ pub fn brine_write_vertex(x: i32, y: i32, z: i32, buffer: &mut [u8], answer: &mu
     ensures { TextFront (write_vertex_verdict x y z (length buffer.old)) buffer.old result answer.new buffer.new }
 {
     let written = write_vertex(x, y, z, buffer);
-    told::tell(told::of_write(written), answer)
+    tell(written, answer)
 }
 
 // Writes the line of an element; the value is its length.
@@ -91,7 +92,7 @@ pub fn brine_write_element(
 {
     let element = *record;
     let written = write_element(element, buffer);
-    told::tell(told::of_write(written), answer)
+    tell(written, answer)
 }
 
 // Writes EN with the two counts; the value is its length.
@@ -104,7 +105,7 @@ pub fn brine_write_end(
     ensures { TextFront (write_end_verdict vertices elements (length buffer.old)) buffer.old result answer.new buffer.new }
 {
     let written = write_end(vertices, elements, buffer);
-    told::tell(told::of_write(written), answer)
+    tell(written, answer)
 }
 
 // Converts a file into the cut mesh as text; the value is its length.
@@ -112,5 +113,5 @@ pub fn brine_convert(input: &[u8], output: &mut [u8], answer: &mut [u64; 4]) -> 
     ensures { TextFront (conversion_into (length output.old) input.now) output.old result answer.new output.new }
 {
     let converted = convert(input, output);
-    told::tell(told::of_convert(converted), answer)
+    tell(converted, answer)
 }

@@ -18,7 +18,7 @@ use Rattle.faults.specs.Refusals.{refused, refuse}
 use Rattle.format.specs.File.{file_verdict}
 use Rattle.converting.specs.Conversion.{conversion, program_output}
 use Rattle.brinetoggle.specs.Input.{input_room}
-use Rattle.brinetoggle.specs.Responding.{length_of, verdict_in, Responded}
+use Rattle.brinetoggle.specs.Responding.{verdict_in, Responded}
 use Rattle.brinetoggle.specs.declared.responding.Response.{Response}
 
 -- ---- the first 65,537 bytes are enough
@@ -43,14 +43,14 @@ first_bytes_enough file = go (ltb input_room (length file)) refl
 
 -- the program reads the first bytes of the file, and responds to them
 pub response_right : (file : List ℕ) (r : Response) (output : List ℕ) → Responded (take input_room file) r output
-    → take (length_of r) output ≡ program_output file
+    → take r.length output ≡ program_output file
 response_right file r output h = h.bytes ∙ first_bytes_enough file
 
 module _ (input : List ℕ) (r r' : Response) (output output' : List ℕ) where
   -- what is written, and what is said of it
   pub record Same : Type 0 where
-    pub bytes : take (length_of r) output ≡ take (length_of r') output'
-    pub verdict : verdict_in r output ≡ verdict_in r' output'
+    pub bytes : take r.length output ≡ take r'.length output'
+    pub verdict : verdict_in r.refusal (take r.length output) ≡ verdict_in r'.refusal (take r'.length output')
 
   pub response_unique : Responded input r output → Responded input r' output' → Same
   response_unique h g = record { bytes = h.bytes ∙ sym g.bytes; verdict = h.verdict ∙ sym g.verdict }

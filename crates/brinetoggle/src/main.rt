@@ -11,8 +11,8 @@ ghost use Rattle.std.specs.Process.{exit_status};
 ghost use Rattle.converting.specs.Conversion.{program_output};
 
 use converting::LONGEST_OUTPUT;
-use reading::{Input, read_input};
-use responding::{Response, respond};
+use reading::read_input;
+use responding::respond;
 use std::io::{Read, Write};
 use std::process::ExitCode;
 use words::{explain, explain_failure};
@@ -31,9 +31,12 @@ fn run<I: Read, O: Write>(rt: &impl Eprint, input: &mut I, output: &mut O) -> Ex
         (λ file. Appends (O.contents output.old) (O.contents output.new) (program_output file)) }
 {
     let mut room = [0u8; INPUT_ROOM];
-    match read_input(rt, input, &mut room) {
-        Input::Got(n) => answer(rt, &room[..n], output),
-        Input::Failed => ExitCode::FAILURE,
+    match read_input(input, &mut room) {
+        Ok(n) => answer(rt, &room[..n], output),
+        Err(failure) => {
+            explain_failure(rt, "standard input", &failure);
+            ExitCode::FAILURE
+        }
     }
 }
 
@@ -42,14 +45,12 @@ fn answer<O: Write>(rt: &impl Eprint, input: &[u8], output: &mut O) -> ExitCode
     ensures { exit_status result ≡ 0 → Appends (O.contents output.old) (O.contents output.new) (program_output input.now) }
 {
     let mut text = [0u8; LONGEST_OUTPUT];
-    match respond(input, &mut text) {
-        Response::Mesh(n) => write_out(rt, &text[..n], output),
-        Response::Refusal(n, refusal) => {
-            let status = write_out(rt, &text[..n], output);
-            explain(rt, refusal);
-            status
-        }
+    let response = respond(input, &mut text);
+    let status = write_out(rt, &text[..response.length], output);
+    if let Some(refusal) = response.refusal {
+        explain(rt, refusal);
     }
+    status
 }
 
 // All of it to the output; a write that fails is said on standard error.

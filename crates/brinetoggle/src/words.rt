@@ -1,17 +1,7 @@
 // A refusal in words, on standard error: where it lies, its name, what is wrong and what was expected.
 // Where standard error cannot be written, there is nowhere left to say so.
-use faults::{Fault, Refusal, Spot, refuser_of, spot_of};
+use faults::{Fault, Refusal, refuser_of, spot_of};
 use std::io;
-
-fn say_spot(rt: &impl Eprint, spot: Spot) -> io::Result<()> {
-    match spot {
-        Spot::Whole => eprint!(rt; "the file"),
-        Spot::Line(n) => eprint!(rt; "line {n}"),
-        Spot::Vertex(n) => eprint!(rt; "vertex {n} of the file"),
-        Spot::Element(n) => eprint!(rt; "element {n} of the file"),
-        Spot::Elements(j, i) => eprint!(rt; "elements {j} and {i} of the file"),
-    }
-}
 
 // The sentence of each of the page's faults.
 fn sentence(fault: Fault) -> &'static str {
@@ -51,14 +41,10 @@ fn sentence(fault: Fault) -> &'static str {
     }
 }
 
-fn say_refusal(rt: &impl Eprint, refusal: Refusal) -> io::Result<()> {
-    say_spot(rt, spot_of(refusal, refuser_of(refusal.fault)))?;
-    eprintln!(rt; ": {}", sentence(refusal.fault))
-}
-
 // One line: where, the name, what is wrong and what was expected.
 pub fn explain(rt: &impl Eprint, refusal: Refusal) {
-    let _ = say_refusal(rt, refusal);
+    let spot = spot_of(refusal, refuser_of(refusal.fault));
+    let _ = eprintln!(rt; "{spot}: {}", sentence(refusal.fault));
 }
 
 // One line: which stream failed, and why.

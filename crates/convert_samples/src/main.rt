@@ -2,31 +2,31 @@
 // A conversion prints the text, or `NO number place second`; where its output is shown, bytes that no call wrote are `.`.
 #![tactic(auto)]
 
-use converting::{ConvertAnswer, convert};
+use converting::convert;
 use faults::Refusal;
 use std::io;
-use writing::{WriteAnswer, write_refusal};
+use writing::write_refusal;
 
 fn print_part(rt: &impl Print, buffer: &[u8], n: usize) -> io::Result<()> {
-    if n <= buffer.len() {
-        rt.write_all(&buffer[..n])?;
+    match buffer.get(..n) {
+        Some(part) => rt.write_all(part),
+        None => Ok(()),
     }
-    Ok(())
 }
 
 fn print_refusal(rt: &impl Print, refusal: Refusal) -> io::Result<()> {
     let mut line = [0u8; 48];
     match write_refusal(refusal, &mut line) {
-        WriteAnswer::Done(n) => print_part(rt, &line, n),
-        WriteAnswer::Refused(_) => Ok(()),
+        Ok(n) => print_part(rt, &line, n),
+        Err(_) => Ok(()),
     }
 }
 
 // A file converted: the text, or the line of the refusal.
 fn converted(rt: &impl Print, file: &[u8], output: &mut [u8]) -> io::Result<()> {
     match convert(file, output) {
-        ConvertAnswer::Done(n) => print_part(rt, output, n),
-        ConvertAnswer::Refused(refusal) => print_refusal(rt, refusal),
+        Ok(n) => print_part(rt, output, n),
+        Err(refusal) => print_refusal(rt, refusal),
     }
 }
 

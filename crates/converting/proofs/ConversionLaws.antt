@@ -17,12 +17,11 @@ use Rattle.format.specs.File.{file_verdict}
 use Rattle.format.specs.Records.{stored_vertices, stored_elements}
 use Rattle.writing.specs.Written.{in_room}
 use Rattle.converting.specs.Conversion.{rooms, cut_room, cut_text, conversion}
-use Rattle.converting.specs.declared.ConvertAnswer.{ConvertAnswer}
-use Rattle.converting.specs.declared.ConvertAnswer.TheVariants.{Refused}
+use Rattle.std.specs.Prelude.{Result, Err}
 use Rattle.converting.specs.Converting.{conversion_into, Left, ConvertDone}
 use Rattle.converting.specs.ConversionLoops.{mesh_text, GoodVertices, GoodTetrahedra, cut_verdict}
 use Rattle.converting.proofs.MeshTextLaws.{cut_text_lem}
-use Rattle.converting.proofs.ConvertLaws.{left-refused}
+use Rattle.converting.proofs.ConvertLaws.{left_refused}
 use Rattle.converting.proofs.CutLaws.{Stored, cut-few, cut_tetrahedra}
 use Rattle.converting.proofs.ReadingLaws.{Read}
 
@@ -46,11 +45,11 @@ module _ {v n : ℕ} {t : List ℕ} {count : ℕ} {new : List ℕ} (s : Stored v
   cutting_good h = rw (s.numbers, s.many) (cut_tetrahedra v n t cut_room s.tetrahedra s.verdict h)
 
 module _ (vertices : List ℤ) (v : ℕ) (elements : List ℕ) (n : ℕ) (old : List ℕ) where
-  pub cutting_refused : {r : Refusal} → cut_of v n elements cut_room ≡ refused r → Left (cut_verdict vertices v elements n (length old)) old (Refused r) old
+  pub cutting_refused : {r : Refusal} → cut_of v n elements cut_room ≡ refused r → Left (cut_verdict vertices v elements n (length old)) old (Err r) old
   unfolding cut_verdict
-  cutting_refused e = left-refused old (rw e)
+  cutting_refused e = left_refused old (rw e) refl
 
-  pub cutting_written : {count : ℕ} {numbers new : List ℕ} {r : ConvertAnswer} (s : Stored v n elements count numbers)
+  pub cutting_written : {count : ℕ} {numbers new : List ℕ} {r : Result ℕ Refusal} (s : Stored v n elements count numbers)
       → Left (in_room (length old) (mesh_text vertices v (take (tetrahedron_width * count) numbers) count)) old r new
       → Left (cut_verdict vertices v elements n (length old)) old r new
   unfolding cut_verdict
@@ -65,11 +64,11 @@ room_last room f (accepted ts) = refl
 room_last room f (refused r) = refl
 
 module _ (input old : List ℕ) where
-  pub reading-refused : {r : Refusal} → file_verdict rooms input ≡ refused r → ConvertDone input old (Refused r) old
+  pub reading-refused : {r : Refusal} → file_verdict rooms input ≡ refused r → ConvertDone input old (Err r) old
   unfolding conversion_into conversion
-  reading-refused e = record { left = left-refused old (rw e) }
+  reading-refused e = record { left = left_refused old (rw e) refl }
 
-  pub reading-written : {v n : ℕ} {vertices : List ℤ} {elements new : List ℕ} {r : ConvertAnswer} (s : Read input v n vertices elements)
+  pub reading-written : {v n : ℕ} {vertices : List ℤ} {elements new : List ℕ} {r : Result ℕ Refusal} (s : Read input v n vertices elements)
       → Left (cut_verdict (take (vertex_width * v) vertices) v (take (element_width * n) elements) n (length old)) old r new
       → ConvertDone input old r new
   unfolding conversion_into conversion cut_verdict

@@ -1,9 +1,9 @@
 -- Laws of the contract of converting: a refusal that leaves the output alone, and a text that is stored where there is room.
 -- Assumes nothing.
 use mathlib.Core.Path.{◌≡◌, refl, sym}
-use mathlib.Core.List.{List}
+use mathlib.Core.List.{List, ◌++◌}
 use Prim.Native.Nat.{ℕ, ◌≤◌, ◌<◌}
-use lib.ListN.{length, take}
+use lib.ListN.{length, take, drop}
 use borrow.Author.Tests.{lt-ltb, le-ltb}
 use Rattle.laws.specs.Lent.{laid}
 use Rattle.laws.proofs.LentLaws.{laid_none}
@@ -11,18 +11,18 @@ use Rattle.faults.specs.Refusals.{Verdict, accepted, refused, refuse}
 use Rattle.faults.specs.declared.Refusal.{Refusal}
 use Rattle.faults.specs.declared.Fault.TheVariants as fault
 use Rattle.writing.specs.Written.{in_room}
-use Rattle.converting.specs.declared.ConvertAnswer.TheVariants.{Done, Refused}
+use Rattle.std.specs.Prelude.{Ok, Err}
 use Rattle.converting.specs.Converting.{convert_verdict, Left}
 use Rattle.converting.specs.ConversionLoops.{Put}
 use Rattle.converting.proofs.PutTextLaws.{take-laid}
 
 -- a refusal, and the output as it was
-pub left-refused : (old : List ℕ) {r : Refusal} {v : Verdict (List ℕ)} → v ≡ refused r → Left v old (Refused r) old
+pub left_refused : (old : List ℕ) {r x : Refusal} {v : Verdict (List ℕ)} → v ≡ refused r → x ≡ r → Left v old (Err x) old
 unfolding convert_verdict
-left-refused old e = rw e (record { answer = refl; output = sym (laid_none old) })
+left_refused old e f = rw (e, f) (record { answer = refl; output = sym (laid_none old) })
 
 -- a text's length, and the text with what stood behind it
-pub left-done : (text old : List ℕ) → Left (accepted text) old (Done (length text)) (laid text old)
+pub left-done : (text old : List ℕ) → Left (accepted text) old (Ok (length text)) (laid text old)
 unfolding convert_verdict
 left-done text old = record { answer = refl; output = refl }
 
@@ -35,11 +35,11 @@ module _ {m : ℕ} {text memory memory' : List ℕ} {n : ℕ} (p : Put m text me
   put_count = rw (put_taken p) p.count
 
   -- ROOM, and the output as it was
-  pub left-room : length old < n → Left (in_room (length old) text) old (Refused (refuse fault.Room 0)) old
+  pub left_room : {x : Refusal} → length old < n → x ≡ refuse fault.Room 0 → Left (in_room (length old) text) old (Err x) old
   unfolding in_room
-  left-room h = left-refused old (rw (lt-ltb (length old) (length text) (rw p.count at h)))
+  left_room h = left_refused old (rw (lt-ltb (length old) (length text) (rw p.count at h)))
 
   -- a text that there is room for
-  pub left_stored : {new : List ℕ} → n ≤ length old → new ≡ laid (take n memory') old → Left (in_room (length old) text) old (Done n) new
-  unfolding in_room
-  left_stored h e = rw (le-ltb (length old) (length text) (rw p.count at h), p.count, e, put_taken p) (left-done text old)
+  pub left_stored : {front : List ℕ} → n ≤ length old → front ≡ take n memory' → Left (in_room (length old) text) old (Ok n) (front ++ drop n old)
+  unfolding in_room laid
+  left_stored h e = rw (le-ltb (length old) (length text) (rw p.count at h), e, put_taken p, p.count) (left-done text old)

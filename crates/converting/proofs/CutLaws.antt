@@ -7,14 +7,14 @@ use mathlib.Core.List.{List, [], ◌∷◌}
 use Prim.Native.Nat.{ℕ, ◌*◌, ◌≤◌, ◌<◌}
 use native.Mathlib.Omega.{arith}
 use lib.Dec.{T, ltb, leb, leb→le, le→leb}
-use lib.ListN.{length, get_or, take}
+use lib.ListN.{length, get_or, take, replicate, length-replicate}
 use Rattle.limits.specs.Limits.{vertex_limit, tetrahedron_limit, tetrahedron_width}
 use Rattle.laws.specs.Words.{gather, every, among, distinct}
 use Rattle.laws.specs.Lent.{laid}
 use Rattle.laws.proofs.TestLaws.{and_left, and_right, and_both}
 use Rattle.laws.proofs.EveryLaws.{every_implies, every_both, every_index, every_append, among-every}
 use Rattle.faults.specs.declared.Fault.TheVariants.{Room}
-use Rattle.faults.specs.declared.Finding.TheVariants.{Clean}
+use Rattle.std.specs.Prelude.{Ok, Err}
 use Rattle.faults.specs.declared.Refusal.{Refusal}
 use Rattle.faults.specs.Refusals.{Verdict, accepted, refused, refuse, refuse_if, and_then}
 use Rattle.faults.proofs.Theorems.{answer_tells_verdict}
@@ -25,8 +25,6 @@ use Rattle.solids.proofs.Theorems.{plain}
 use Rattle.records.specs.Record.{as_record, used_of, element_of, record_finding, record_at, element_at, first_elements}
 use Rattle.records.specs.WholeRecords.{is_number}
 use Rattle.records.proofs.Theorems.{faultless_clean, first_all}
-use Rattle.mesh.specs.declared.CutAnswer.{CutAnswer}
-use Rattle.mesh.specs.declared.CutAnswer.TheVariants.{Done, Refused}
 use Rattle.mesh.specs.declared.CutCounts.{CutCounts}
 use Rattle.judging.specs.Judge.{judged}
 use Rattle.mesh.specs.Cutting.{flat, cut_of, cut_verdict, CutDone}
@@ -42,7 +40,7 @@ use Rattle.converting.proofs.MeshTextLaws.{no_tet, tetrahedron_record_lem}
 
 -- ---- a tetrahedron
 
-good_clean : (t : Tet Vertex) → T (is_good vertex_limit t) → record_finding vertex_limit (as_record t) ≡ Clean
+good_clean : (t : Tet Vertex) → T (is_good vertex_limit t) → record_finding vertex_limit (as_record t) ≡ Ok tt
 good_clean t h = faultless_clean vertex_limit (as_record t) (record_faultless vertex_limit t h)
 
 -- ---- the cut of an element, and of a mesh
@@ -131,29 +129,36 @@ pub record Stored (v n : ℕ) (t : List ℕ) (count : ℕ) (new : List ℕ) : Ty
   pub numbers : take (tetrahedron_width * count) new ≡ flat tetrahedra
   pub end : tetrahedron_width * count ≡ length (take (tetrahedron_width * count) new)
 
-module _ (v n : ℕ) (t old : List ℕ) (room : length old ≡ cut_room) {r : CutAnswer} {new : List ℕ} where
-  pub cut_refusal : {x : Refusal} → r ≡ Refused x → CutDone v n t old r new → cut_of v n t cut_room ≡ refused x
-  cut_refusal {x} p d = by (cut_of v n t cut_room) refl
+-- a table with room for every cut, before anything is cut
+abbrev pub table : List ℕ
+table = replicate cut_room 0
+
+room : length table ≡ cut_room
+room = length-replicate {A = ℕ} cut_room 0
+
+module _ {v n : ℕ} {t new : List ℕ} where
+  pub cut_refusal : {x : Refusal} → CutDone v n t table (Err x) new → cut_of v n t cut_room ≡ refused x
+  cut_refusal {x} d = by (cut_of v n t cut_room) refl
     where
-      q : cut_verdict (Refused x) ≡ and_then (cut_of v n t cut_room) (λ ts. accepted (length ts ∷ []))
-      q = answer_tells_verdict (0 ∷ []) _ _ (rw (room, p) at d.answer)
+      q : cut_verdict (Err x) ≡ and_then (cut_of v n t cut_room) (λ ts. accepted (length ts ∷ []))
+      q = answer_tells_verdict (0 ∷ []) _ _ (rw room at d.answer)
 
       by : (y : Verdict (List (Tet Vertex))) → cut_of v n t cut_room ≡ y → cut_of v n t cut_room ≡ refused x
       by (accepted ts) e = let z : ◌≡◌ {A = ℕ} 0 1 = let w = rw e at q in cc in absurd (omega arith)
       by (refused y) e = let w = rw e at q in let z : x ≡ y = cc in rw z e
 
-  pub cut_stored : {c : CutCounts} → r ≡ Done c → CutDone v n t old r new → Stored v n t c.tetrahedra new
-  cut_stored {c} p d = by (cut_of v n t cut_room) refl
+  pub cut_stored : {c : CutCounts} → CutDone v n t table (Ok c) new → Stored v n t c.tetrahedra new
+  cut_stored {c} d = by (cut_of v n t cut_room) refl
     where
-      q : cut_verdict (Done c) ≡ and_then (cut_of v n t cut_room) (λ ts. accepted (length ts ∷ []))
-      q = answer_tells_verdict (0 ∷ []) _ _ (rw (room, p) at d.answer)
+      q : cut_verdict (Ok c) ≡ and_then (cut_of v n t cut_room) (λ ts. accepted (length ts ∷ []))
+      q = answer_tells_verdict (0 ∷ []) _ _ (rw room at d.answer)
 
       by : (y : Verdict (List (Tet Vertex))) → cut_of v n t cut_room ≡ y → Stored v n t c.tetrahedra new
       by (accepted ts) e =
           let w = rw e at q in
           let z : c.tetrahedra ≡ length ts = cc in
-          let o : new ≡ laid (flat ts) old = rw (room, e) at d.output in
+          let o : new ≡ laid (flat ts) table = rw (room, e) at d.output in
           let k : tetrahedron_width * c.tetrahedra ≡ length (flat ts) = rw z (sym (length-flat ts)) in
-          let f : take (tetrahedron_width * c.tetrahedra) new ≡ flat ts = rw (k, o) (take-laid (flat ts) old) in
+          let f : take (tetrahedron_width * c.tetrahedra) new ≡ flat ts = rw (k, o) (take-laid (flat ts) table) in
           record { tetrahedra = ts; verdict = e; many = z; numbers = f; end = rw f k }
       by (refused y) e = let z : ◌≡◌ {A = ℕ} 0 1 = let w = rw e at q in cc in absurd (omega arith)

@@ -1,5 +1,4 @@
 -- What is proved of the conversion.
-pub mod StoreLaws
 pub mod PutTextLaws
 pub mod GoodTableLaws
 pub mod MeshTextLaws

@@ -8,9 +8,11 @@ use native.Mathlib.Omega.{arith}
 use borrow.Author.Tests.{ltb-false}
 use lib.Dec.{eqb, ltb}
 use lib.ListN.{length, get_or}
+use Rattle.std.specs.Prelude.{Result, Ok, Err}
 use Rattle.limits.specs.Limits.{line_end, file_limit, element_limit, tetrahedron_width, vertex_limit, element_width}
 use Rattle.laws.specs.Pieces.{Pieces, rest, piece, push, split}
 use Rattle.laws.proofs.SearchLaws.{least-most}
+use Rattle.faults.specs.declared.Fault.{Fault}
 use Rattle.faults.specs.declared.Fault.TheVariants as fault
 use Rattle.faults.specs.declared.Refusal.{Refusal}
 use Rattle.faults.specs.Refusals.{Verdict, accepted, refused, refuse, refuse_pair, refuse_if, and_then}
@@ -25,8 +27,6 @@ use Rattle.format.specs.File.{start, lines_of, at_end, onward, file_from, file_v
 use Rattle.format.specs.Records.{stored_elements}
 use Rattle.format.specs.declared.ReaderState.{ReaderState}
 use Rattle.format.specs.declared.Rooms.{Rooms}
-use Rattle.format.specs.declared.Line.{Line}
-use Rattle.format.specs.declared.Line.TheVariants.{Next, No}
 use Rattle.format.proofs.AcceptedFileLaws.{file-fits}
 use Rattle.converting.specs.Conversion.{rooms, cut_room, conversion}
 
@@ -78,9 +78,9 @@ at-end m state n h = by state.ended
     by true = tt
     by false = record { place = h; second = zero-le }
 
-at-line : (m n : ℕ) → n ≤ m → (x : Line) (next : ReaderState → Verdict (List ℕ)) → ((s : ReaderState) → Small m (next s)) → Small m (onward x n next)
-at-line m n h (Next s) next q = q s
-at-line m n h (No f) next q = record { place = h; second = zero-le }
+at-line : (m n : ℕ) → n ≤ m → (x : Result ReaderState Fault) (next : ReaderState → Verdict (List ℕ)) → ((s : ReaderState) → Small m (next s)) → Small m (onward x n next)
+at-line m n h (Ok s) next q = q s
+at-line m n h (Err f) next q = record { place = h; second = zero-le }
 
 lines_small : (r : Rooms) (m : ℕ) (p : Pieces) (state : ReaderState) (n : ℕ) → n + closed_lines p + 1 ≤ m → Small m (file_from r state n p)
 unfolding file_from

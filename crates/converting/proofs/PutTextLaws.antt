@@ -14,10 +14,11 @@ use Rattle.limits.specs.Limits.{vertex_limit, tetrahedron_limit}
 use Rattle.laws.specs.Lent.{laid}
 use Rattle.laws.proofs.WordLaws.{part_from}
 use Rattle.writing.proofs.Theorems.{Written}
-use Rattle.writing.specs.declared.WriteAnswer.{WriteAnswer}
+use Rattle.std.specs.Prelude.{Result, Ok, IsOk}
+use Rattle.faults.specs.declared.Refusal.{Refusal}
 use Rattle.writing.specs.Written.{closed, end_line}
 use Rattle.converting.specs.Converting.{longest_vertex, longest_tetrahedron, longest_end, longest_output}
-use Rattle.converting.specs.ConversionLoops.{Put, length_in, vertex_text, tetrahedron_text, text_to, mesh_text}
+use Rattle.converting.specs.ConversionLoops.{Put, vertex_text, tetrahedron_text, text_to, mesh_text}
 
 -- ---- lent memory
 
@@ -42,9 +43,13 @@ module _ {A : Type 0} (a l : List A) where
 -- ---- a line
 
 -- what a writer wrote
-pub put_written : {answer : WriteAnswer} {old new text : List ℕ} (most : ℕ) {r : ℕ} → Written answer old new text → length text ≤ most → r ≡ length_in answer
+pub put_written : {answer : Result ℕ Refusal} {old new text : List ℕ} (most : ℕ) {r : ℕ} → Written answer old new text → length text ≤ most → answer ≡ Ok r
     → Put most text old r new
-put_written most w h e = record { count = e ∙ ap length_in w.answer; short = h; memory = w.buffer }
+put_written {text = text} most {r} w h e = record { count = let n : Ok r ≡ Ok (length text) = sym e ∙ w.answer in cc; short = h; memory = w.buffer }
+
+-- so it did not refuse
+pub wrote-ok : {answer : Result ℕ Refusal} {old new text : List ℕ} → Written answer old new text → IsOk answer
+wrote-ok w = rw w.answer
 
 -- more room than the text may need
 pub put_within : {m : ℕ} {text old new : List ℕ} (most : ℕ) {r : ℕ} → Put m text old r new → m ≤ most → Put most text old r new

@@ -1,11 +1,11 @@
 -- What reading into tables with room for every file gives: the counts, the file's records at the front of the tables, and every coordinate within
 -- the limits. Assumes nothing.
-use mathlib.Core.Path.{◌≡◌, sym, ap, ◌∙◌}
+use mathlib.Core.Path.{◌≡◌, sym, ap}
 use mathlib.Core.List.{List, [], ◌∷◌}
 use Prim.Native.Nat.{ℕ, ◌*◌, ◌≤◌}
 use native.Mathlib.Omega.{arith}
-use lib.IntN.{ℤ}
-use lib.ListN.{length, get_or, take}
+use lib.IntN.{ℤ, pos}
+use lib.ListN.{length, get_or, take, replicate, length-replicate}
 use Rattle.limits.specs.Limits.{vertex_width, element_width}
 use Rattle.laws.specs.Lent.{laid}
 use Rattle.faults.specs.declared.Refusal.{Refusal}
@@ -16,8 +16,7 @@ use Rattle.format.specs.Records.{vertex_records, element_records, records_from, 
 use Rattle.format.proofs.AcceptedFileLaws.{file-fits}
 use Rattle.format.proofs.StoredRecordLaws.{records_ranged}
 use Rattle.text.specs.Reading.{verdict_of, rooms_of, ReadDone}
-use Rattle.text.specs.declared.ReadAnswer.{ReadAnswer}
-use Rattle.text.specs.declared.ReadAnswer.TheVariants.{Done, Refused}
+use Rattle.std.specs.Prelude.{Result, Ok, Err}
 use Rattle.text.specs.declared.ReadCounts.{ReadCounts}
 use Rattle.converting.specs.Conversion.{rooms}
 use Rattle.converting.specs.ConversionLoops.{GoodVertices}
@@ -55,22 +54,28 @@ file_good file cs e =
 front : {A : Type 0} {n : ℕ} (records old : List A) {new : List A} → new ≡ laid records old → length records ≡ n → take n new ≡ records
 front records old e f = rw (e, ← f) (take-laid records old)
 
-module _ (file : List ℕ) (vertices : List ℤ) (elements : List ℕ) (vertex_room : length vertices ≡ rooms.vertices) (element_room : length elements ≡ rooms.elements) where
-  same : rooms_of vertices elements ≡ rooms
-  same = λ i. record { vertices = vertex_room i; elements = element_room i }
+-- tables with room for every file, before anything is read
+abbrev pub vertices : List ℤ
+vertices = replicate rooms.vertices (pos 0)
 
-  told : {r : ReadAnswer} {vertices' : List ℤ} {elements' : List ℕ} → ReadDone file vertices elements r vertices' elements' → verdict_of r ≡ file_verdict rooms file
+abbrev pub elements : List ℕ
+elements = replicate rooms.elements 0
+
+same : rooms_of vertices elements ≡ rooms
+same = λ i. record { vertices = length-replicate rooms.vertices (pos 0) i; elements = length-replicate {A = ℕ} rooms.elements 0 i }
+
+module _ {file : List ℕ} {vertices' : List ℤ} {elements' : List ℕ} where
+  told : {r : Result ReadCounts Refusal} → ReadDone file vertices elements r vertices' elements' → verdict_of r ≡ file_verdict rooms file
   told d = answer_tells_verdict (0 ∷ 0 ∷ []) _ _ (rw same at d.answer)
 
-  pub read_refusal : {r : ReadAnswer} {vertices' : List ℤ} {elements' : List ℕ} {x : Refusal} → r ≡ Refused x → ReadDone file vertices elements r vertices' elements' → file_verdict rooms file ≡ refused x
+  pub read_refusal : {x : Refusal} → ReadDone file vertices elements (Err x) vertices' elements' → file_verdict rooms file ≡ refused x
   unfolding verdict_of
-  read_refusal p d = sym (told d) ∙ ap verdict_of p
+  read_refusal d = sym (told d)
 
-  pub read_stored : {r : ReadAnswer} {vertices' : List ℤ} {elements' : List ℕ} {c : ReadCounts} → r ≡ Done c → ReadDone file vertices elements r vertices' elements'
-      → Read file c.vertices c.elements vertices' elements'
+  pub read_stored : {c : ReadCounts} → ReadDone file vertices elements (Ok c) vertices' elements' → Read file c.vertices c.elements vertices' elements'
   unfolding verdict_of stored_vertices stored_elements
-  read_stored {c = c} p d =
-      let e : file_verdict rooms file ≡ accepted (c.vertices ∷ c.elements ∷ []) = sym (told d) ∙ ap verdict_of p in
+  read_stored {c = c} d =
+      let e : file_verdict rooms file ≡ accepted (c.vertices ∷ c.elements ∷ []) = sym (told d) in
       let f = file-fits rooms file (c.vertices ∷ c.elements ∷ []) e in
       let cs = f.counts in
       let v : c.vertices ≡ f.final.vertices = cc in

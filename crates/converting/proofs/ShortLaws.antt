@@ -8,17 +8,16 @@ use lib.IntN.{ℤ}
 use lib.ListN.{length, get_or, length-append}
 use Rattle.faults.specs.Refusals.{Verdict, accepted, refused, and_then}
 use Rattle.solids.specs.Solids.{Vertex, Tet}
-use Rattle.records.specs.Record.{kind_of}
 use Rattle.mesh.specs.Cutting.{flat, cut_of}
 use Rattle.format.specs.File.{file_verdict}
 use Rattle.format.specs.Records.{stored_vertices, stored_elements}
 use Rattle.writing.specs.Written.{closed, end_line}
-use Rattle.writing.proofs.Theorems.{element_line_by_kind, end_line_short}
+use Rattle.writing.proofs.Theorems.{end_line_short}
 use Rattle.converting.specs.Conversion.{rooms, cut_room, cut_text, conversion}
 use Rattle.converting.specs.Converting.{longest_vertex, longest_tetrahedron, longest_output}
-use Rattle.converting.specs.ConversionLoops.{vertex_text, tetrahedron_record, tetrahedron_text, text_to, mesh_text, GoodVertices, GoodTetrahedra}
+use Rattle.converting.specs.ConversionLoops.{vertex_text, tetrahedron_text, text_to, mesh_text, GoodVertices, GoodTetrahedra}
 use Rattle.converting.proofs.MeshTextLaws.{cut_text_lem}
-use Rattle.converting.proofs.GoodTableLaws.{vertices_below, vertex-short}
+use Rattle.converting.proofs.GoodTableLaws.{vertex-short, tetrahedron-short}
 use Rattle.converting.proofs.CutLaws.{cut_tetrahedra}
 use Rattle.converting.proofs.ReadingLaws.{file_good}
 
@@ -31,17 +30,12 @@ text_short f most (suc n) h =
     let last = h n (omega arith) in
     rw (length-append (text_to f n) (f n), mul-suc most n) (omega arith)
 
--- `TE` with four numbers of four digits
-tetrahedron_short : (t : List ℕ) (n : ℕ) → GoodTetrahedra t n → (k : ℕ) → k < n → length (tetrahedron_text t k) ≤ longest_tetrahedron
-unfolding tetrahedron_text tetrahedron_record kind_of
-tetrahedron_short t n g k h = element_line_by_kind (tetrahedron_record t k) (g.clean k h)
-
 mesh_short : (vertices : List ℤ) (v : ℕ) (tetrahedra : List ℕ) (n : ℕ) → GoodVertices vertices v → GoodTetrahedra tetrahedra n
     → length (mesh_text vertices v tetrahedra n) ≤ longest_output
 unfolding mesh_text
 mesh_short vertices v tetrahedra n g h =
-    let a = text_short (vertex_text vertices) longest_vertex v (λ k l. vertex-short vertices k (vertices_below g l)) in
-    let b = text_short (tetrahedron_text tetrahedra) longest_tetrahedron n (tetrahedron_short tetrahedra n h) in
+    let a = text_short (vertex_text vertices) longest_vertex v (λ k l. vertex-short vertices k g l) in
+    let b = text_short (tetrahedron_text tetrahedra) longest_tetrahedron n (λ k l. tetrahedron-short tetrahedra k h l) in
     let c = end_line_short v n g.few h.few in
     rw
     (length-append (text_to (vertex_text vertices) v) (text_to (tetrahedron_text tetrahedra) n ++ closed (end_line v n)), length-append (text_to (tetrahedron_text tetrahedra) n) (closed (end_line v n)))

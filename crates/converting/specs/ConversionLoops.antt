@@ -1,18 +1,15 @@
 -- What the private functions of converting say: the text of a cut mesh, record by record, out of the two tables.
 -- proofs/MeshTextLaws.antt says that it is the page's text.
-use Rattle.std.specs.Prelude.{ℕ, zero, suc, ◌+◌, ◌*◌, ◌≤◌, ◌<◌, ◌≡◌, List, [], ◌++◌, T, ℤ, pos, length, get_or}
+use Rattle.std.specs.Prelude.{ℕ, zero, suc, ◌+◌, ◌*◌, ◌≤◌, ◌<◌, ◌≡◌, List, [], ◌++◌, T, ℤ, pos, length, get_or, Ok}
 use Rattle.limits.specs.Limits.{vertex_limit, tetrahedron_limit, vertex_width, tetrahedron_width}
 use Rattle.laws.specs.Lent.{laid}
 use Rattle.laws.specs.Words.{every}
-use Rattle.faults.specs.declared.Finding.TheVariants.{Clean}
 use Rattle.faults.specs.Refusals.{Verdict, and_then}
 use Rattle.volume.specs.Volume.{in_range}
 use Rattle.solids.specs.Solids.{tet}
 use Rattle.records.specs.Record.{record_finding, as_record}
 use Rattle.mesh.specs.Cutting.{cut_of}
 use Rattle.writing.specs.Written.{closed, vertex_line, element_line, end_line, in_room}
-use Rattle.writing.specs.declared.WriteAnswer.{WriteAnswer}
-use Rattle.writing.specs.declared.WriteAnswer.TheVariants.{Done, Refused}
 use Rattle.converting.specs.Conversion.{cut_room, cut_text}
 
 -- a text of at most so many bytes stands at the front of lent memory, and its length is the answer
@@ -20,11 +17,6 @@ pub record Put (most : ℕ) (text old : List ℕ) (r : ℕ) (new : List ℕ) : T
   pub count : r ≡ length text
   pub short : length text ≤ most
   pub memory : new ≡ laid text old
-
--- how much was written, 0 where it was refused
-abbrev pub length_in : WriteAnswer → ℕ
-length_in (Done n) = n
-length_in (Refused r) = 0
 
 -- the line of vertex k of a table, from 0
 unfoldable pub vertex_text : List ℤ → ℕ → List ℕ
@@ -60,7 +52,7 @@ pub record GoodVertices (t : List ℤ) (v : ℕ) : Type 0 where
 pub record GoodTetrahedra (t : List ℕ) (n : ℕ) : Type 0 where
   pub few : n ≤ tetrahedron_limit
   pub long : tetrahedron_width * n ≤ length t
-  pub clean : (k : ℕ) → k < n → record_finding vertex_limit (tetrahedron_record t k) ≡ Clean
+  pub clean : (k : ℕ) → k < n → record_finding vertex_limit (tetrahedron_record t k) ≡ Ok tt
 
 -- a table is cut; the text of the cut mesh, where there is room for it, or the first refusal
 unfoldable pub cut_verdict : List ℤ → ℕ → List ℕ → ℕ → (room : ℕ) → Verdict (List ℕ)

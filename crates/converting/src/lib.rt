@@ -7,94 +7,66 @@ mod output;
 ghost use Rattle.std.specs.Prelude.{length};
 ghost use Rattle.writing.specs.Written.{in_room};
 ghost use Rattle.converting.specs.Converting.{ConvertDone, Left};
-ghost use Rattle.converting.specs.ConversionLoops.{mesh_text, GoodVertices, GoodTetrahedra, cut_verdict};
+ghost use Rattle.converting.specs.ConversionLoops.{mesh_text, cut_verdict};
 
-use crate::output::{put_mesh, store};
+use crate::output::{Tetrahedra, Vertices, put_mesh};
 use faults::{Fault, Refusal};
 use limits::{
     ELEMENT_NUMBERS, ELEMENT_WIDTH, TETRAHEDRON_LIMIT, TETRAHEDRON_NUMBERS, TETRAHEDRON_WIDTH,
     VERTEX_LIMIT, VERTEX_NUMBERS, VERTEX_WIDTH,
 };
-use mesh::{CutAnswer, cut_mesh};
-use text::{ReadAnswer, read_mesh};
-
-// What the conversion says: the length of the text, or a refusal.
-#[derive(Clone, Copy)]
-pub enum ConvertAnswer {
-    Done(usize),
-    Refused(Refusal),
-}
+use mesh::cut_mesh;
+use text::read_mesh;
 
 // How long the text of a conversion is at most: 4,096 vertex lines of 30 bytes, 6,144 lines of tetrahedra of 23, EN of 13.
 pub const LONGEST_OUTPUT: usize = 30 * VERTEX_LIMIT + 23 * TETRAHEDRON_LIMIT + 13;
 
 // The cut mesh as text: made whole before a byte of it is stored, so that ROOM stores nothing.
 fn write_cut(
-    vertices: &[i32],
-    vertex_count: usize,
-    tetrahedra: &[u16],
-    count: usize,
+    vertices: &Vertices<'_>,
+    tetrahedra: &Tetrahedra<'_>,
     output: &mut [u8],
-) -> ConvertAnswer
-    requires good_vertices { GoodVertices vertices.now vertex_count }
-    requires good_tetrahedra { GoodTetrahedra tetrahedra.now count }
-    ensures { Left (in_room (length output.old) (mesh_text vertices.now vertex_count tetrahedra.now count)) output.old result output.new }
+) -> Result<usize, Refusal>
+    ensures { Left (in_room (length output.old) (mesh_text vertices.now.numbers.now vertices.now.count tetrahedra.now.numbers.now tetrahedra.now.count)) output.old result output.new }
 {
     let mut text = [0u8; LONGEST_OUTPUT];
-    let n = put_mesh(vertices, vertex_count, tetrahedra, count, &mut text);
+    let n = put_mesh(vertices, tetrahedra, &mut text);
     if output.len() < n {
-        return ConvertAnswer::Refused(Refusal {
-            fault: Fault::Room,
-            place: 0,
-            second: 0,
-        });
+        return Err(Refusal::at(Fault::Room, 0));
     }
-    store(&text[..n], output);
-    ConvertAnswer::Done(n)
+    output[..n].copy_from_slice(&text[..n]);
+    Ok(n)
 }
 
 // A table that was read: cut, then written.
 fn cut_and_write(
-    vertices: &[i32],
-    vertex_count: usize,
+    vertices: &Vertices<'_>,
     elements: &[u16],
     element_count: usize,
     output: &mut [u8],
-) -> ConvertAnswer
-    requires { GoodVertices vertices.now vertex_count }
-    ensures { Left (cut_verdict vertices.now vertex_count elements.now element_count (length output.old)) output.old result output.new }
+) -> Result<usize, Refusal>
+    ensures { Left (cut_verdict vertices.now.numbers.now vertices.now.count elements.now element_count (length output.old)) output.old result output.new }
 {
-    let mut tetrahedra = [0u16; TETRAHEDRON_NUMBERS];
-    match cut_mesh(vertex_count, element_count, elements, &mut tetrahedra) {
-        CutAnswer::Refused(refusal) => ConvertAnswer::Refused(refusal),
-        CutAnswer::Done(counts) => {
-            let count = counts.tetrahedra;
-            let end = TETRAHEDRON_WIDTH * count;
-            write_cut(vertices, vertex_count, &tetrahedra[..end], count, output)
-        }
-    }
+    let mut numbers = [0u16; TETRAHEDRON_NUMBERS];
+    let count = cut_mesh(vertices.count, element_count, elements, &mut numbers)?.tetrahedra;
+    let tetrahedra = Tetrahedra {
+        numbers: &numbers[..TETRAHEDRON_WIDTH * count],
+        count,
+    };
+    write_cut(vertices, &tetrahedra, output)
 }
 
 // Reads a file, cuts its table and leaves the cut mesh as text in the output; a refusal writes nothing.
-pub fn convert(input: &[u8], output: &mut [u8]) -> ConvertAnswer
+pub fn convert(input: &[u8], output: &mut [u8]) -> Result<usize, Refusal>
     ensures { ConvertDone input.now output.old result output.new }
 {
-    let mut vertices = [0i32; VERTEX_NUMBERS];
+    let mut numbers = [0i32; VERTEX_NUMBERS];
     let mut elements = [0u16; ELEMENT_NUMBERS];
-    match read_mesh(input, &mut vertices, &mut elements) {
-        ReadAnswer::Refused(refusal) => ConvertAnswer::Refused(refusal),
-        ReadAnswer::Done(counts) => {
-            let vertex_count = counts.vertices;
-            let element_count = counts.elements;
-            let vertex_end = VERTEX_WIDTH * vertex_count;
-            let element_end = ELEMENT_WIDTH * element_count;
-            cut_and_write(
-                &vertices[..vertex_end],
-                vertex_count,
-                &elements[..element_end],
-                element_count,
-                output,
-            )
-        }
-    }
+    let counts = read_mesh(input, &mut numbers, &mut elements)?;
+    let vertices = Vertices {
+        numbers: &numbers[..VERTEX_WIDTH * counts.vertices],
+        count: counts.vertices,
+    };
+    let elements = &elements[..ELEMENT_WIDTH * counts.elements];
+    cut_and_write(&vertices, elements, counts.elements, output)
 }

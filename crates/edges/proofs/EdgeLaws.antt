@@ -1,25 +1,22 @@
--- Two vertices are the ends of an edge of an element exactly if an edge of its solid joins two places at which they stand.
+-- Two vertices are the ends of an edge of an element exactly if they stand at the two places of an edge of its solid, in one order or the other.
 -- Assumes nothing.
-use mathlib.Core.Path.{◌≡◌, refl, sym, ap, ◌∙◌, subst}
-use mathlib.Core.Bool.{Bool, true, false, not, ◌&&◌}
-use mathlib.Core.List.{List, [], ◌∷◌, ◌++◌, map}
+use mathlib.Core.Path.{◌≡◌, refl, sym, ap, ap₂, ◌∙◌}
+use mathlib.Core.Bool.{Bool, false, ◌&&◌, ◌||◌}
+use mathlib.Core.List.{List, [], ◌∷◌, map}
 use mathlib.Core.Logic.{◌⊎◌, inl, inr}
-use Prim.Native.Nat.{ℕ, zero, suc, ◌<◌}
-use native.Mathlib.Omega.{arith}
-use lib.Dec.{T, eqb, ltb, eqb→eq, ltb→lt}
-use borrow.Author.Tests.{eq-eqb, ne_eqb}
-use Rattle.laws.specs.Words.{some, every, gather, among}
-use Rattle.laws.specs.Searches.{least}
+use Prim.Native.Nat.{ℕ}
+use lib.Dec.{T, eqb, eqb→eq}
+use borrow.Author.Tests.{eq-eqb}
+use Rattle.std.specs.Cmp.{both_ways}
+use Rattle.std.proofs.lemmas.List.{map-append}
+use Rattle.laws.specs.Words.{keep, some, every, gather, among}
 use Rattle.laws.proofs.TestLaws.{T_true, true-T, and_left, and_right, and_both, or_cases, or_left, or_right}
-use Rattle.laws.proofs.EveryLaws.{some_at, every-at, among-every}
-use Rattle.laws.proofs.SearchLaws.{least-none, least_all}
-use Rattle.laws.proofs.PassLaws.{Failed}
 use Rattle.solids.specs.declared.Solid.{Solid}
 use Rattle.solids.specs.declared.Solid.TheVariants.{Tetrahedron, Pyramid, Prism, Hexahedron}
-use Rattle.solids.specs.Solids.{Face, three, four, Edge, edge, element, faces, at, on_face, ends, edges_of, element_edges}
+use Rattle.solids.specs.Solids.{Face, three, four, Edge, edge, element, faces, at, on_face, ends, edges_of}
 use Rattle.solids.specs.Fit.{same_set, has_edge}
 use Rattle.solids.proofs.SetLaws.{among_first, among_later, same_set_lem, set_there, set_back}
-use Rattle.edges.specs.EdgeLoops.{joined, Standing, some_place, ends_at, starts_at}
+use Rattle.edges.specs.EdgePlaces.{rises, edge_places, joins}
 
 -- ---- two vertices as ends
 
@@ -74,181 +71,112 @@ abbrev is_ends : ℕ → ℕ → Edge ℕ → Bool
 is_ends u v E = same_set (u ∷ v ∷ []) (ends E)
 
 module _ (f : ℕ → ℕ) where
-  map-append : (l m : List (Edge ℕ)) → map (on_edge f) (l ++ m) ≡ map (on_edge f) l ++ map (on_edge f) m
-  map-append [] m = refl
-  map-append (E ∷ l) m = ap (λ x. on_edge f E ∷ x) (map-append l m)
-
   edges_on : (F : Face ℕ) → edges_of (on_face f F) ≡ map (on_edge f) (edges_of F)
   edges_on (three p q r) = refl
   edges_on (four p q r s) = refl
 
   all_edges_on : (fs : List (Face ℕ)) → gather edges_of (map (on_face f) fs) ≡ map (on_edge f) (gather edges_of fs)
   all_edges_on [] = refl
-  all_edges_on (F ∷ fs) = rw (edges_on F, all_edges_on fs) (sym (map-append (edges_of F) (gather edges_of fs)))
+  all_edges_on (F ∷ fs) = rw (edges_on F, all_edges_on fs) (sym (map-append (on_edge f) (edges_of F) (gather edges_of fs)))
 
-  -- places that an edge joins: an edge joins their vertices
-  carried : (p q : ℕ) (Es : List (Edge ℕ)) → T (some (is_ends p q) Es) → T (some (is_ends (f p) (f q)) (map (on_edge f) Es))
-  carried p q [] h = absurd h
-  carried p q (edge a b ∷ Es) h = go (or_cases (is_ends p q (edge a b)) (some (is_ends p q) Es) h) (carried p q Es)
+-- ---- two vertices that stand at the ends of one of the edges
+
+-- the same two places, in one order or the other
+abbrev alike : Edge ℕ → Edge ℕ → Bool
+alike E F = same_set (ends E) (ends F)
+
+abbrev one_way : ℕ → ℕ → ℕ → ℕ → Bool
+one_way u v a b = eqb a u && eqb b v
+
+other_way : (u v a b : ℕ) → T (one_way u v a b) → T (one_way v u b a)
+other_way u v a b h = and_both (eqb b v) (eqb a u) (and_right (eqb a u) (eqb b v) h) (and_left (eqb a u) (eqb b v) h)
+
+module _ (u v : ℕ) where
+  pair_test : (a b : ℕ) → (one_way u v a b || one_way v u a b) ≡ is_ends u v (edge a b)
+  pair_test a b = both_ways _ _ (λ e. T_true _ (there (or_cases (one_way u v a b) (one_way v u a b) (true-T e)))) (λ e. T_true _ (back (pair_of u v a b (true-T e))))
     where
-      both : ((p ≡ a) × (q ≡ b)) ⊎ ((p ≡ b) × (q ≡ a)) → T (is_ends (f p) (f q) (edge (f a) (f b)))
-      both (inl e) = rw (e.0, e.1) (pair_self (f a) (f b))
-      both (inr e) = rw (e.0, e.1) (pair_turned (f a) (f b))
+      equal : (x y : ℕ) → T (one_way x y a b) → (a ≡ x) × (b ≡ y)
+      equal x y h = (eqb→eq a x (and_left (eqb a x) (eqb b y) h), eqb→eq b y (and_right (eqb a x) (eqb b y) h))
 
-      go : T (is_ends p q (edge a b)) ⊎ T (some (is_ends p q) Es) → (T (some (is_ends p q) Es) → T (some (is_ends (f p) (f q)) (map (on_edge f) Es)))
-          → T (some (is_ends (f p) (f q)) (map (on_edge f) (edge a b ∷ Es)))
-      go (inl k) ih = or_left (is_ends (f p) (f q) (edge (f a) (f b))) (some (is_ends (f p) (f q)) (map (on_edge f) Es)) (both (pair_of p q a b k))
-      go (inr k) ih = or_right (is_ends (f p) (f q) (edge (f a) (f b))) (some (is_ends (f p) (f q)) (map (on_edge f) Es)) (ih k)
+      passes : (x y : ℕ) → a ≡ x → b ≡ y → T (one_way x y a b)
+      passes x y e f = and_both (eqb a x) (eqb b y) (true-T (eq-eqb a x e)) (true-T (eq-eqb b y f))
 
-  -- two places that hold the vertices u and v, and are the ends of one of the edges
-  record Places (u v : ℕ) (Es : List (Edge ℕ)) : Type 0 where
-    one : ℕ
-    other : ℕ
-    is_one : f one ≡ u
-    is_other : f other ≡ v
-    edged : T (some (is_ends one other) Es)
+      there : T (one_way u v a b) ⊎ T (one_way v u a b) → T (is_ends u v (edge a b))
+      there (inl h) = let e = equal u v h in rw (e.0, e.1) (pair_self u v)
+      there (inr h) = let e = equal v u h in rw (e.0, e.1) (pair_turned v u)
 
-  -- vertices that an edge joins: an edge joins two places that hold them
-  fetched : (u v : ℕ) (Es : List (Edge ℕ)) → T (some (is_ends u v) (map (on_edge f) Es)) → Places u v Es
-  fetched u v [] h = absurd h
-  fetched u v (edge a b ∷ Es) h = go (or_cases (is_ends u v (edge (f a) (f b))) (some (is_ends u v) (map (on_edge f) Es)) h) (fetched u v Es)
-    where
-      both : ((u ≡ f a) × (v ≡ f b)) ⊎ ((u ≡ f b) × (v ≡ f a)) → Places u v (edge a b ∷ Es)
-      both (inl e) =
-          record {
-            one = a;
-            other = b;
-            is_one = sym e.0;
-            is_other = sym e.1;
-            edged = or_left (is_ends a b (edge a b)) (some (is_ends a b) Es) (pair_self a b);
-          }
-      both (inr e) =
-          record {
-            one = b;
-            other = a;
-            is_one = sym e.0;
-            is_other = sym e.1;
-            edged = or_left (is_ends b a (edge a b)) (some (is_ends b a) Es) (pair_turned a b);
-          }
+      back : ((u ≡ a) × (v ≡ b)) ⊎ ((u ≡ b) × (v ≡ a)) → T (one_way u v a b || one_way v u a b)
+      back (inl e) = or_left (one_way u v a b) (one_way v u a b) (passes u v (sym e.0) (sym e.1))
+      back (inr e) = or_right (one_way u v a b) (one_way v u a b) (passes v u (sym e.1) (sym e.0))
 
-      later : Places u v Es → Places u v (edge a b ∷ Es)
-      later w =
-          record {
-            one = w.one;
-            other = w.other;
-            is_one = w.is_one;
-            is_other = w.is_other;
-            edged = or_right (is_ends w.one w.other (edge a b)) (some (is_ends w.one w.other) Es) w.edged;
-          }
+  module _ (vs : List ℕ) where
+    -- the two vertices stand at the ends of the edge
+    abbrev stand : Edge ℕ → Bool
+    stand E = joins u v vs (ends E)
 
-      go : T (is_ends u v (edge (f a) (f b))) ⊎ T (some (is_ends u v) (map (on_edge f) Es)) → (T (some (is_ends u v) (map (on_edge f) Es)) → Places u v Es)
-          → Places u v (edge a b ∷ Es)
-      go (inl k) ih = both (pair_of u v (f a) (f b) k)
-      go (inr k) ih = later (ih k)
+    stand_ends : (E : Edge ℕ) → stand E ≡ is_ends u v (on_edge (at vs) E)
+    unfolding joins
+    stand_ends (edge p q) = pair_test (at vs p) (at vs q)
 
--- ---- the places of a solid
+    places_stand : (l : List (Edge ℕ)) → some (joins u v vs) (map ends l) ≡ some stand l
+    places_stand [] = refl
+    places_stand (E ∷ l) = ap (λ b. stand E || b) (places_stand l)
 
-abbrev is_place : ℕ → Bool
-is_place p = ltb 0 p && ltb p 9
+    ends_stand : (l : List (Edge ℕ)) → some stand l ≡ some (is_ends u v) (map (on_edge (at vs)) l)
+    ends_stand [] = refl
+    ends_stand (E ∷ l) = ap₂ {C = Bool} (λ a b. a || b) (stand_ends E) (ends_stand l)
 
--- each end of an edge is a place from 1 to 8
-ends_are_places : (s : Solid) → T (every (λ E. every is_place (ends E)) (gather edges_of (faces s)))
-ends_are_places Tetrahedron = tt
-ends_are_places Pyramid = tt
-ends_are_places Prism = tt
-ends_are_places Hexahedron = tt
-
-module _ (s : Solid) (p q : ℕ) where
-  pub joined_places : T (joined s p q) → T (is_place p) × T (is_place q)
-  unfolding joined
-  joined_places h =
-      let r = some_at (is_ends p q) (gather edges_of (faces s)) h in
-      let k = every-at (λ E. every is_place (ends E)) (gather edges_of (faces s)) (ends_are_places s) r.0 r.1 in
-      let m = set_there (p ∷ q ∷ []) (ends r.0) r.2 in
-      (among-every is_place (ends r.0) k p (m p (among_first p (q ∷ []))), among-every is_place (ends r.0) k q (m q (among_later q p (q ∷ []) (among_first q []))))
-
--- ---- the search
-
-not_true_false : (b : Bool) → (T b → ⊥) → b ≡ false
-not_true_false true h = absurd (h tt)
-not_true_false false h = refl
-
--- a place that passes, and places none of which does
-some-place : (t : ℕ → Bool) (p : ℕ) → T (is_place p) → T (t p) → T (some_place t)
-some-place t p i h = go (least t 9) refl
-  where
-    go : (n : ℕ) → least t 9 ≡ n → T (not (eqb n 0))
-    go (suc n) e = rw (ne_eqb (suc n) 0 (λ z. omega arith)) tt
-    go zero e = absurd (subst T (least_all t 9 e p (ltb→lt p 9 (and_right (ltb 0 p) (ltb p 9) i))) h)
-
-no_place : (t : ℕ → Bool) → ((p : ℕ) → p < 9 → T (t p) → ⊥) → some_place t ≡ false
-no_place t h = rw (least-none t 9 (λ p l. not_true_false (t p) (h p l)))
-
-module _ (s : Solid) (vs : List ℕ) where
-  ends-joined : (p v q : ℕ) → T (ends_at s vs p v q) → (at vs q ≡ v) × T (joined s p q)
-  unfolding ends_at
-  ends-joined p v q h = (eqb→eq (at vs q) v (and_left (eqb (at vs q) v) (joined s p q) h), and_right (eqb (at vs q) v) (joined s p q) h)
-
-  -- a search may start at place 1, for no edge joins place 0 to another
-  pub ends-start : (p v : ℕ) → Failed (ends_at s vs p v) 9 1
-  ends-start p v = record { high = omega arith; none = least-none (ends_at s vs p v) 1 (λ q l. not_true_false (ends_at s vs p v q) (bad q l)) }
-    where
-      bad : (q : ℕ) → q < 1 → T (ends_at s vs p v q) → ⊥
-      bad q l h =
-          let j = joined_places s p q (ends-joined p v q h).1 in
-          let k : 0 < q = ltb→lt 0 q (and_left (ltb 0 q) (ltb q 9) j.1) in
-          omega arith
-
-  module _ (u v : ℕ) where
-    starts_reached : (p : ℕ) → T (starts_at s vs u v p) → (at vs p ≡ u) × T (some_place (ends_at s vs p v))
-    unfolding starts_at
-    starts_reached p h =
-        let a = eqb (at vs p) u in
-        let b = some_place (ends_at s vs p v) in
-        (eqb→eq (at vs p) u (and_left a b h), and_right a b h)
-
-    -- what holds wherever a place p holds u, a place q holds v and an edge joins them
-    reached : (p : ℕ) → T (starts_at s vs u v p) → ((q : ℕ) → at vs p ≡ u → at vs q ≡ v → T (joined s p q) → ⊥) → ⊥
-    reached p h k =
-        let r = starts_reached p h in
-        subst T (no_place (ends_at s vs p v) (λ q l e. let j = ends-joined p v q e in k q r.0 j.0 j.1)) r.1
-
-    pub starts_start : Failed (starts_at s vs u v) 9 1
-    starts_start = record { high = omega arith; none = least-none (starts_at s vs u v) 1 (λ p l. not_true_false (starts_at s vs u v p) (bad p l)) }
+    alike_stand : (E F : Edge ℕ) → T (alike E F) → T (stand E) → T (stand F)
+    unfolding joins
+    alike_stand (edge a b) (edge p q) h k = go (pair_of a b p q h)
       where
-        bad : (p : ℕ) → p < 1 → T (starts_at s vs u v p) → ⊥
-        bad p l h = reached p h (λ q e f j. let k : 0 < p = ltb→lt 0 p (and_left (ltb 0 p) (ltb p 9) (joined_places s p q j).0) in omega arith)
+        turned : T (one_way u v (at vs a) (at vs b)) ⊎ T (one_way v u (at vs a) (at vs b)) → T (stand (edge b a))
+        turned (inl h) = or_right (one_way u v (at vs b) (at vs a)) (one_way v u (at vs b) (at vs a)) (other_way u v (at vs a) (at vs b) h)
+        turned (inr h) = or_left (one_way u v (at vs b) (at vs a)) (one_way v u (at vs b) (at vs a)) (other_way v u (at vs a) (at vs b) h)
 
-    edges_of_lem : element_edges (element s vs) ≡ map (on_edge (at vs)) (gather edges_of (faces s))
-    edges_of_lem = all_edges_on (at vs) (faces s)
+        go : ((a ≡ p) × (b ≡ q)) ⊎ ((a ≡ q) × (b ≡ p)) → T (stand (edge p q))
+        go (inl e) = rw (← e.0, ← e.1) k
+        go (inr e) = rw (← e.0, ← e.1) (turned (or_cases (one_way u v (at vs a) (at vs b)) (one_way v u (at vs a) (at vs b)) k))
 
-    there : T (has_edge (u ∷ v ∷ []) (element s vs)) → T (some_place (starts_at s vs u v))
-    unfolding joined ends_at starts_at
-    there h =
-        let w = fetched (at vs) u v (gather edges_of (faces s)) (subst (λ (Es : List (Edge ℕ)). T (some (is_ends u v) Es)) edges_of_lem h) in
-        let i = joined_places s w.one w.other w.edged in
-        some-place (starts_at s vs u v) w.one i.0
-        (and_both (eqb (at vs w.one) u) (some_place (ends_at s vs w.one v)) (true-T (eq-eqb _ _ w.is_one))
-        (some-place (ends_at s vs w.one v) w.other i.1
-        (and_both (eqb (at vs w.other) v) (joined s w.one w.other) (true-T (eq-eqb _ _ w.is_other)) w.edged)))
-
-    back : (p q : ℕ) → at vs p ≡ u → at vs q ≡ v → T (joined s p q) → T (has_edge (u ∷ v ∷ []) (element s vs))
-    unfolding joined
-    back p q e f j =
-        rw (← e, ← f)
-        (subst (λ (Es : List (Edge ℕ)). T (some (is_ends (at vs p) (at vs q)) Es)) (sym edges_of_lem) (carried (at vs) p q (gather edges_of (faces s)) j))
-
-    pub edge_found : some_place (starts_at s vs u v) ≡ has_edge (u ∷ v ∷ []) (element s vs)
-    edge_found = go (has_edge (u ∷ v ∷ []) (element s vs)) refl
+    one_stands : (E : Edge ℕ) (m : List (Edge ℕ)) → T (some (alike E) m) → T (stand E) → T (some stand m)
+    one_stands E [] h k = absurd h
+    one_stands E (F ∷ m) h k = go (or_cases (alike E F) (some (alike E) m) h) (one_stands E m)
       where
-        go : (b : Bool) → has_edge (u ∷ v ∷ []) (element s vs) ≡ b → some_place (starts_at s vs u v) ≡ has_edge (u ∷ v ∷ []) (element s vs)
-        go true e = T_true _ (there (true-T e)) ∙ sym e
-        go false e = no_place (starts_at s vs u v) (λ p l h. reached p h (λ q a b j. subst T e (back p q a b j))) ∙ sym e
+        go : T (alike E F) ⊎ T (some (alike E) m) → (T (some (alike E) m) → T (stand E) → T (some stand m)) → T (some stand (F ∷ m))
+        go (inl a) ih = or_left (stand F) (some stand m) (alike_stand E F a k)
+        go (inr a) ih = or_right (stand F) (some stand m) (ih a k)
 
-    -- joined places at which the two stand
-    pub edge_held : {p q : ℕ} → Standing u vs p → Standing v vs q → joined s p q ≡ true → true ≡ has_edge (u ∷ v ∷ []) (element s vs)
-    edge_held {p} {q} a b e =
-        let i = joined_places s p q (true-T e) in
-        let h : 0 < p = ltb→lt 0 p (and_left (ltb 0 p) (ltb p 9) i.0) in
-        let k : 0 < q = ltb→lt 0 q (and_left (ltb 0 q) (ltb q 9) i.1) in
-        sym (T_true _ (back p q (a.here h) (b.here k) (true-T e)))
+    -- each edge of the one list stands in the other, in one order or the other
+    some_stand : (l m : List (Edge ℕ)) → T (every (λ E. some (alike E) m) l) → T (some stand l) → T (some stand m)
+    some_stand [] m h k = absurd k
+    some_stand (E ∷ l) m h k = go (or_cases (stand E) (some stand l) k) (some_stand l m (and_right (some (alike E) m) (every (λ F. some (alike F) m) l) h))
+      where
+        go : T (stand E) ⊎ T (some stand l) → (T (some stand l) → T (some stand m)) → T (some stand m)
+        go (inl a) ih = one_stands E m (and_left (some (alike E) m) (every (λ F. some (alike F) m) l) h) a
+        go (inr a) ih = ih a
+
+-- ---- the edges of a solid, each once
+
+abbrev sides : Solid → List (Edge ℕ)
+sides s = gather edges_of (faces s)
+
+all_rise : (s : Solid) → T (every (λ E. some (alike E) (keep rises (sides s))) (sides s))
+all_rise Tetrahedron = tt
+all_rise Pyramid = tt
+all_rise Prism = tt
+all_rise Hexahedron = tt
+
+risen_sides : (s : Solid) → T (every (λ E. some (alike E) (sides s)) (keep rises (sides s)))
+risen_sides Tetrahedron = tt
+risen_sides Pyramid = tt
+risen_sides Prism = tt
+risen_sides Hexahedron = tt
+
+pub edge_found : (s : Solid) (vs : List ℕ) (u v : ℕ) → some (joins u v vs) (edge_places s) ≡ has_edge (u ∷ v ∷ []) (element s vs)
+unfolding edge_places
+edge_found s vs u v =
+    let risen = keep rises (sides s) in
+    places_stand u v vs risen
+    ∙ both_ways _ _ (λ e. T_true _ (some_stand u v vs risen (sides s) (risen_sides s) (true-T e))) (λ e. T_true _ (some_stand u v vs (sides s) risen (all_rise s) (true-T e)))
+    ∙ ends_stand u v vs (sides s)
+    ∙ ap (some (is_ends u v)) (sym (all_edges_on (at vs) (faces s)))

@@ -1,4 +1,3 @@
 -- What is proved of the edges of an element.
-pub mod EdgeTableLaws
 pub mod EdgeLaws
 pub mod Theorems

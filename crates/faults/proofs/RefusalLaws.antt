@@ -5,7 +5,7 @@ use mathlib.Core.Bool.{Bool, true, false}
 use Prim.Native.Nat.{ℕ}
 use native.Mathlib.Omega.{arith}
 use Rattle.faults.specs.declared.Refusal.{Refusal}
-use Rattle.faults.specs.declared.Ruling.TheVariants as ruling
+use Rattle.std.specs.Prelude.{Ok, Err}
 use Rattle.faults.specs.Refusals.{Verdict, accepted, refused, refuse_if, ruled, and_then}
 
 -- what a test did not refuse passed it, and is what came next
@@ -27,10 +27,10 @@ then_if true r next f = refl
 then_if false r next f = refl
 
 -- a ruling tells its verdict: the refusal, or that there is none
-pub ruled-refused : {A : Type 0} (w : Verdict A) (x : Refusal) → ruled w ≡ ruling.Refused x → w ≡ refused x
+pub ruled-refused : {A : Type 0} (w : Verdict A) (x : Refusal) → ruled w ≡ Err x → w ≡ refused x
 ruled-refused (accepted y) x e = absurd (let z : ◌≡◌ {A = ℕ} 0 1 = cc in omega arith)
 ruled-refused (refused y) x e = ap refused (let z : y ≡ x = cc in z)
 
-pub ruled_passed : {A : Type 0} (w : Verdict A) → ruled w ≡ ruling.Passed → (y : A) × (w ≡ accepted y)
+pub ruled_passed : {A : Type 0} (w : Verdict A) → ruled w ≡ Ok tt → (y : A) × (w ≡ accepted y)
 ruled_passed (accepted y) e = (y, refl)
 ruled_passed (refused y) e = absurd (let z : ◌≡◌ {A = ℕ} 0 1 = cc in omega arith)

@@ -81,7 +81,7 @@ module _ {A : Type 0} where
 
 -- ---- two answers that a contract allows are equal
 
--- `number_of`
+-- `u32::from` of a fault
 pub number_unique : (f : Fault) (a b : ℕ) → a ≡ number_of f → b ≡ number_of f → a ≡ b
 number_unique f a b p q = p ∙ sym q
 

@@ -1,12 +1,10 @@
 -- Refusal numbers: the page's table, and what an answer says in numbers.
 --   verdict   what an entry says of its input: accepted, with its own values, or refused, with fault, place and second number
 --   answer    the same in the page's numbers: number, place, second number, then the entry's own values
-use Rattle.std.specs.Prelude.{Bool, cond, List, [], ℕ}
+use Rattle.std.specs.Prelude.{Bool, cond, List, [], ℕ, Result, Ok, Err}
 use Rattle.faults.specs.declared.Fault.{Fault}
 use Rattle.faults.specs.declared.Fault.TheVariants.{Long, Mark, Shape, Comma, Number, Range, Many, Vertex, Room, End, Kind, Spare, Repeat, Join}
 use Rattle.faults.specs.declared.Refusal.{Refusal}
-use Rattle.faults.specs.declared.Ruling.{Ruling}
-use Rattle.faults.specs.declared.Ruling.TheVariants as ruling
 
 -- 0 DONE: accepted
 abbrev pub done : ℕ
@@ -61,9 +59,9 @@ module _ {A : Type 0} where
   refuse_if b r next = cond b (refused r) next
 
 -- what judging a part comes to, where its verdict is this one
-abbrev pub ruled : {A : Type 0} → Verdict A → Ruling
-ruled (accepted v) = ruling.Passed
-ruled (refused r) = ruling.Refused r
+abbrev pub ruled : {A : Type 0} → Verdict A → Result (Unit {0}) Refusal
+ruled (accepted v) = Ok tt
+ruled (refused r) = Err r
 
 module _ {A B : Type 0} where
   -- what comes after an acceptance; a refusal stays as it is

@@ -5,33 +5,37 @@ use Rattle.faults.specs.declared.Fault.TheVariants.{Long, Mark, Shape, Comma, Nu
 use Rattle.faults.specs.declared.Refusal.{Refusal}
 use Rattle.faults.specs.declared.Refuser.{Refuser}
 use Rattle.faults.specs.declared.Refuser.TheVariants.{Reading, Judging}
-use Rattle.faults.specs.declared.Subject.{Subject}
-use Rattle.faults.specs.declared.Subject.TheVariants as subject
 use Rattle.faults.specs.declared.Spot.{Spot}
 use Rattle.faults.specs.declared.Spot.TheVariants as spot
 
+-- what a fault of tables names: an element, a vertex, or a pair of elements
+pub data Subject : Type 0 where
+  an_element : Subject
+  a_vertex : Subject
+  a_pair : Subject
+
 -- a fault of tables names an element; RANGE names a vertex, JOIN a pair of elements
 abbrev pub subject_of : Fault → Subject
-subject_of Long = subject.Element
-subject_of Mark = subject.Element
-subject_of Shape = subject.Element
-subject_of Comma = subject.Element
-subject_of Number = subject.Element
-subject_of Range = subject.Vertex
-subject_of Many = subject.Element
-subject_of Vertex = subject.Element
-subject_of Room = subject.Element
-subject_of End = subject.Element
-subject_of Kind = subject.Element
-subject_of Spare = subject.Element
-subject_of Repeat = subject.Element
-subject_of Join = subject.Pair
+subject_of Long = an_element
+subject_of Mark = an_element
+subject_of Shape = an_element
+subject_of Comma = an_element
+subject_of Number = an_element
+subject_of Range = a_vertex
+subject_of Many = an_element
+subject_of Vertex = an_element
+subject_of Room = an_element
+subject_of End = an_element
+subject_of Kind = an_element
+subject_of Spare = an_element
+subject_of Repeat = an_element
+subject_of Join = a_pair
 
 -- in tables the place is an index from 1; of a pair it is that of the later element, and the second number that of the earlier
 abbrev pub table_spot : Subject → Refusal → Spot
-table_spot subject.Element r = spot.Element r.place
-table_spot subject.Vertex r = spot.Vertex r.place
-table_spot subject.Pair r = spot.Elements r.place r.second
+table_spot an_element r = spot.Element r.place
+table_spot a_vertex r = spot.Vertex r.place
+table_spot a_pair r = spot.Elements r.place r.second
 
 -- in a file the place is a line's number, from 1
 abbrev pub spot_in : Refuser → Refusal → Spot

@@ -2,11 +2,13 @@
 #![tactic(auto)]
 
 ghost use Rattle.std.specs.Prelude.{◌≡◌};
-ghost use Rattle.faults.specs.Refusals.{number_of};
+ghost use Rattle.faults.specs.Refusals.{number_of, refuse};
 ghost use Rattle.faults.specs.Spots.{subject_of, table_spot, spot_of, refuser_of};
 
+use std::fmt;
+
 // A fault by the page's name, in the page's order.
-#[derive(Clone, Copy)]
+#[derive(Clone, Copy, Debug, PartialEq, Eq)]
 pub enum Fault {
     Long,
     Mark,
@@ -25,44 +27,44 @@ pub enum Fault {
 }
 
 // A fault, the place that it names, and the second number, which JOIN alone uses.
-#[derive(Clone, Copy)]
+#[derive(Clone, Copy, Debug, PartialEq, Eq)]
 pub struct Refusal {
     pub fault: Fault,
     pub place: usize,
     pub second: usize,
 }
 
-// What a test finds: nothing, or the first fault.
-#[derive(Clone, Copy)]
-pub enum Finding {
-    Clean,
-    Found(Fault),
+impl Refusal {
+    /// A fault with the place that it names.
+    pub fn at(fault: Fault, place: usize) -> Refusal
+        ensures { result ≡ refuse fault place }
+    {
+        Refusal {
+            fault,
+            place,
+            second: 0,
+        }
+    }
 }
 
-// What judging a part of the input comes to: it passes, or the first refusal.
-#[derive(Clone, Copy)]
-pub enum Ruling {
-    Passed,
-    Refused(Refusal),
+// `NO number place second`, as the page writes a refusal.
+impl fmt::Display for Refusal {
+    fn fmt<W: fmt::Write>(&self, f: &mut fmt::Formatter<W>) -> fmt::Result {
+        let number = u32::from(self.fault);
+        let (place, second) = (self.place, self.second);
+        write!(f, "NO {number} {place} {second}")
+    }
 }
 
 // Who refused: the reader of a file, or who judges tables.
-#[derive(Clone, Copy)]
+#[derive(Clone, Copy, Debug, PartialEq, Eq)]
 pub enum Refuser {
     Reading,
     Judging,
 }
 
-// What a fault of tables names: an element, a vertex, or a pair of elements.
-#[derive(Clone, Copy)]
-enum Subject {
-    Element,
-    Vertex,
-    Pair,
-}
-
 // Where a refusal lies: the file or a table as a whole, a line, a vertex, an element, or two elements, the later one first.
-#[derive(Clone, Copy)]
+#[derive(Clone, Copy, Debug, PartialEq, Eq)]
 pub enum Spot {
     Whole,
     Line(usize),
@@ -71,59 +73,51 @@ pub enum Spot {
     Elements(usize, usize),
 }
 
+// In words, as a line on standard error begins.
+impl fmt::Display for Spot {
+    fn fmt<W: fmt::Write>(&self, f: &mut fmt::Formatter<W>) -> fmt::Result {
+        match self {
+            Spot::Whole => write!(f, "the file"),
+            Spot::Line(n) => write!(f, "line {n}"),
+            Spot::Vertex(n) => write!(f, "vertex {n} of the file"),
+            Spot::Element(n) => write!(f, "element {n} of the file"),
+            Spot::Elements(j, i) => write!(f, "elements {j} and {i} of the file"),
+        }
+    }
+}
+
 // The page's number of a fault.
-pub fn number_of(fault: Fault) -> u32
-    ensures { result ≡ number_of fault }
-{
-    match fault {
-        Fault::Long => 1,
-        Fault::Mark => 2,
-        Fault::Shape => 3,
-        Fault::Comma => 4,
-        Fault::Number => 5,
-        Fault::Range => 6,
-        Fault::Many => 7,
-        Fault::Vertex => 8,
-        Fault::Room => 9,
-        Fault::End => 10,
-        Fault::Kind => 11,
-        Fault::Spare => 12,
-        Fault::Repeat => 13,
-        Fault::Join => 14,
+impl From<Fault> for u32 {
+    ghost from_gives = { λ fault n. n ≡ number_of fault };
+
+    fn from(fault: Fault) -> u32 {
+        match fault {
+            Fault::Long => 1,
+            Fault::Mark => 2,
+            Fault::Shape => 3,
+            Fault::Comma => 4,
+            Fault::Number => 5,
+            Fault::Range => 6,
+            Fault::Many => 7,
+            Fault::Vertex => 8,
+            Fault::Room => 9,
+            Fault::End => 10,
+            Fault::Kind => 11,
+            Fault::Spare => 12,
+            Fault::Repeat => 13,
+            Fault::Join => 14,
+        }
     }
 }
 
-// What a fault of tables names.
-fn subject_of(fault: Fault) -> Subject
-    ensures { result ≡ subject_of fault }
-{
-    match fault {
-        Fault::Long => Subject::Element,
-        Fault::Mark => Subject::Element,
-        Fault::Shape => Subject::Element,
-        Fault::Comma => Subject::Element,
-        Fault::Number => Subject::Element,
-        Fault::Range => Subject::Vertex,
-        Fault::Many => Subject::Element,
-        Fault::Vertex => Subject::Element,
-        Fault::Room => Subject::Element,
-        Fault::End => Subject::Element,
-        Fault::Kind => Subject::Element,
-        Fault::Spare => Subject::Element,
-        Fault::Repeat => Subject::Element,
-        Fault::Join => Subject::Pair,
-    }
-}
-
-// The spot that a refusal of tables names.
+// The spot that a refusal of tables names: RANGE names a vertex, JOIN a pair of elements, and any other fault an element.
 fn table_spot(refusal: Refusal) -> Spot
     ensures { result ≡ table_spot (subject_of refusal.fault) refusal }
 {
-    let fault = refusal.fault;
-    match subject_of(fault) {
-        Subject::Element => Spot::Element(refusal.place),
-        Subject::Vertex => Spot::Vertex(refusal.place),
-        Subject::Pair => Spot::Elements(refusal.place, refusal.second),
+    match refusal.fault {
+        Fault::Range => Spot::Vertex(refusal.place),
+        Fault::Join => Spot::Elements(refusal.place, refusal.second),
+        _ => Spot::Element(refusal.place),
     }
 }
 
@@ -146,19 +140,7 @@ pub fn refuser_of(fault: Fault) -> Refuser
     ensures { result ≡ refuser_of fault }
 {
     match fault {
-        Fault::Long => Refuser::Reading,
-        Fault::Mark => Refuser::Reading,
-        Fault::Shape => Refuser::Reading,
-        Fault::Comma => Refuser::Reading,
-        Fault::Number => Refuser::Reading,
-        Fault::Range => Refuser::Reading,
-        Fault::Many => Refuser::Reading,
-        Fault::Vertex => Refuser::Reading,
-        Fault::Room => Refuser::Reading,
-        Fault::End => Refuser::Reading,
-        Fault::Kind => Refuser::Judging,
-        Fault::Spare => Refuser::Judging,
-        Fault::Repeat => Refuser::Judging,
-        Fault::Join => Refuser::Judging,
+        Fault::Kind | Fault::Spare | Fault::Repeat | Fault::Join => Refuser::Judging,
+        _ => Refuser::Reading,
     }
 }

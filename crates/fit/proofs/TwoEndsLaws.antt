@@ -4,7 +4,9 @@ use mathlib.Core.Path.{◌≡◌, refl, sym, ap, ap₂, ◌∙◌, subst}
 use mathlib.Core.Bool.{Bool, true, false, cond, not, ◌&&◌, ◌||◌}
 use mathlib.Core.List.{List, [], ◌∷◌}
 use mathlib.Core.Logic.{◌⊎◌, inl, inr}
-use Prim.Native.Nat.{ℕ, ◌≤◌, ◌<◌}
+use Prim.Native.Nat.{ℕ, ◌<◌}
+use Rattle.std.specs.Prelude.{Some, None}
+use Rattle.std.specs.List.{find}
 use native.Mathlib.Omega.{arith}
 use native.Mathlib.Nat.{not-suc-le-zero}
 use lib.Dec.{T, eqb}
@@ -18,6 +20,23 @@ use Rattle.solids.specs.Fit.{same_set, has_edge}
 use Rattle.solids.proofs.SetLaws.{Sub, among_first, among_later, among_cases, sub_every, every_sub, same_set_lem, set_there, set_back}
 use Rattle.fit.specs.SetLoops.{other_than}
 use Rattle.edges.proofs.EdgeLaws.{either}
+
+-- the first vertex that is found to be another than u
+pub other_found : (u v : ℕ) (vs : List ℕ) → Some v ≡ find (λ w. not (eqb u w)) vs → v ≡ other_than u vs
+other_found u v [] e = cc
+other_found u v (w ∷ vs) e = go (eqb u w) e (other_found u v vs)
+  where
+    go : (b : Bool) → Some v ≡ cond (not b) (Some w) (find (λ x. not (eqb u x)) vs) → (Some v ≡ find (λ x. not (eqb u x)) vs → v ≡ other_than u vs) → v ≡ cond b (other_than u vs) w
+    go true f rest = rest f
+    go false f rest = cc
+
+pub other-missing : (u : ℕ) (vs : List ℕ) → None ≡ find (λ w. not (eqb u w)) vs → u ≡ other_than u vs
+other-missing u [] e = refl
+other-missing u (w ∷ vs) e = go (eqb u w) e (other-missing u vs)
+  where
+    go : (b : Bool) → None ≡ cond (not b) (Some w) (find (λ x. not (eqb u x)) vs) → (None ≡ find (λ x. not (eqb u x)) vs → u ≡ other_than u vs) → u ≡ cond b (other_than u vs) w
+    go true f rest = rest f
+    go false f rest = cc
 
 -- the other vertex is among the vertices, or is u
 other_in : (u : ℕ) (c : List ℕ) → T (among (other_than u c) (u ∷ c))
@@ -138,37 +157,26 @@ module _ (c : List ℕ) (some : 0 < length c) (e x : Element) {v : ℕ} {b : Boo
   told : every (λ w. among w (get_or c 0 0 ∷ other_than (get_or c 0 0) c ∷ [])) c ≡ b
   told = sym (all_two ∙ ap (λ (y : ℕ). every (λ w. among w (get_or c 0 0 ∷ y ∷ [])) c) other)
 
-  pub no-ends : b ≡ false → false ≡ (has_edge c e && has_edge c x)
-  no-ends t = rw (more_no_edge c some (told ∙ t) e)
+  pub no_ends : b ≡ false → false ≡ (has_edge c e && has_edge c x)
+  no_ends t = rw (more_no_edge c some (told ∙ t) e)
 
-  module _ (t : b ≡ true) where
-    of_two : (y : Element) {r : Bool} → r ≡ has_edge (get_or c 0 0 ∷ v ∷ []) y → has_edge c y ≡ r
-    of_two y f = two_edge c some (told ∙ t) y ∙ ap (λ (w : ℕ). has_edge (get_or c 0 0 ∷ w ∷ []) y) (sym other) ∙ sym f
+  of_two : b ≡ true → (y : Element) → has_edge (get_or c 0 0 ∷ v ∷ []) y ≡ has_edge c y
+  of_two t y = ap (λ (w : ℕ). has_edge (get_or c 0 0 ∷ w ∷ []) y) other ∙ sym (two_edge c some (told ∙ t) y)
 
-    module _ {r : Bool} (first : r ≡ has_edge (get_or c 0 0 ∷ v ∷ []) e) where
-      pub ends_of_one : r ≡ false → false ≡ (has_edge c e && has_edge c x)
-      ends_of_one z = rw (of_two e first, z)
-
-      pub ends_of_both : r ≡ true → {q : Bool} → q ≡ has_edge (get_or c 0 0 ∷ v ∷ []) x → q ≡ (has_edge c e && has_edge c x)
-      ends_of_both z f = rw (of_two e first, z) (sym (of_two x f))
+  pub ends_of_both : b ≡ true → {r : Bool} → r ≡ (has_edge (get_or c 0 0 ∷ v ∷ []) e && has_edge (get_or c 0 0 ∷ v ∷ []) x) → r ≡ (has_edge c e && has_edge c x)
+  ends_of_both t f = f ∙ ap₂ {C = Bool} (λ p q. p && q) (of_two t e) (of_two t x)
 
 -- ---- two vertices, and three different ones
 
-two_of : (c : List ℕ) → 1 < length c → length c ≤ 2 → c ≡ get_or c 0 0 ∷ get_or c 1 0 ∷ []
-two_of [] h l = absurd (omega arith)
-two_of (u ∷ []) h l = absurd (omega arith)
-two_of (u ∷ v ∷ []) h l = refl
-two_of (u ∷ v ∷ w ∷ c) h l = absurd (omega arith)
+two_of : (c : List ℕ) → length c ≡ 2 → c ≡ get_or c 0 0 ∷ get_or c 1 0 ∷ []
+two_of [] h = absurd (omega arith)
+two_of (u ∷ []) h = absurd (omega arith)
+two_of (u ∷ v ∷ []) h = refl
+two_of (u ∷ v ∷ w ∷ c) h = absurd (omega arith)
 
-module _ (c : List ℕ) (many : 1 < length c) (few : length c ≤ 2) (e x : Element) {r : Bool} (first : r ≡ has_edge (get_or c 0 0 ∷ get_or c 1 0 ∷ []) e) where
-  of_pair : (y : Element) {q : Bool} → q ≡ has_edge (get_or c 0 0 ∷ get_or c 1 0 ∷ []) y → has_edge c y ≡ q
-  of_pair y f = ap (λ (d : List ℕ). has_edge d y) (two_of c many few) ∙ sym f
-
-  pub pair_of_one : r ≡ false → false ≡ (has_edge c e && has_edge c x)
-  pair_of_one z = rw (of_pair e first, z)
-
-  pub pair_of_both : r ≡ true → {q : Bool} → q ≡ has_edge (get_or c 0 0 ∷ get_or c 1 0 ∷ []) x → q ≡ (has_edge c e && has_edge c x)
-  pair_of_both z f = rw (of_pair e first, z) (sym (of_pair x f))
+pub pair_of_both : (c : List ℕ) → length c ≡ 2 → (e x : Element) {r : Bool} → r ≡ (has_edge (get_or c 0 0 ∷ get_or c 1 0 ∷ []) e && has_edge (get_or c 0 0 ∷ get_or c 1 0 ∷ []) x)
+    → r ≡ (has_edge c e && has_edge c x)
+pair_of_both c h e x f = f ∙ ap (λ (d : List ℕ). has_edge d e && has_edge d x) (sym (two_of c h))
 
 three_no_edge : (u v w : ℕ) (c : List ℕ) → (u ≡ v → ⊥) → (u ≡ w → ⊥) → (v ≡ w → ⊥) → (e : Element) → has_edge (u ∷ v ∷ w ∷ c) e ≡ false
 three_no_edge u v w c a b d e = go (has_edge (u ∷ v ∷ w ∷ c) e) refl

@@ -1,134 +1,87 @@
 // Whether two elements fit, as the page says it: the verdict of a pair of records.
 #![tactic(auto)]
 
-ghost use Rattle.std.specs.Prelude.{◌≡◌, ◌&&◌, ◌<◌, length};
+ghost use Rattle.std.specs.Prelude.{◌≡◌, ◌&&◌, [], ◌∷◌, ◌<◌, length};
 ghost use Rattle.laws.specs.Words.{some};
-ghost use Rattle.solids.specs.Solids.{element, of_face, faces_of};
+ghost use Rattle.solids.specs.Solids.{of_face, faces_of};
 ghost use Rattle.solids.specs.Rotations.{same_face};
 ghost use Rattle.solids.specs.Fit.{same_set, has_edge, back_face, share_face, fits};
 ghost use Rattle.records.specs.Record.{element_of};
+ghost use Rattle.records.specs.Elements.{seen};
 ghost use Rattle.faces.specs.Faces.{face_of};
 
+use common::Common;
 use faces::Face;
-use solids::{Solid, Vertex};
+use records::Element;
+use solids::Vertex;
 
+mod common;
 mod sets;
 
+// Two vertices are the ends of an edge of both elements.
+fn both_have_edge(u: Vertex, v: Vertex, element: Element, neighbour: Element) -> bool
+    ensures { result ≡ (has_edge (u.0 ∷ v.0 ∷ []) (seen element.entry) && has_edge (u.0 ∷ v.0 ∷ []) (seen neighbour.entry)) }
+{
+    edges::has_edge(u, v, element) && edges::has_edge(u, v, neighbour)
+}
+
 // The common vertices of two elements, however often they stand, are the two ends of an edge of both.
-fn share_any_edge(
-    vertices: &[u16],
-    solid: Solid,
-    corners: &[u16],
-    neighbour: Solid,
-    others: &[u16],
-) -> bool
+fn share_any_edge(vertices: &[u16], element: Element, neighbour: Element) -> bool
     requires { 0 < length vertices.now }
-    ensures { result ≡ (has_edge vertices.now (element solid corners.now) && has_edge vertices.now (element neighbour others.now)) }
+    ensures { result ≡ (has_edge vertices.now (seen element.entry) && has_edge vertices.now (seen neighbour.entry)) }
 {
     let u = Vertex(vertices[0]);
     let v = sets::other_than(u, vertices);
-    let ends = [u.0, v.0];
-    if !sets::all_among(vertices, &ends) {
-        return false;
-    }
-    if edges::has_edge(u, v, solid, corners) {
-        return edges::has_edge(u, v, neighbour, others);
-    }
-    false
+    sets::all_among(vertices, &[u.0, v.0]) && both_have_edge(u, v, element, neighbour)
 }
 
 // The common vertices of two elements are the two ends of an edge of both; three different ones never are.
-fn share_edge(
-    vertices: &[u16],
-    solid: Solid,
-    corners: &[u16],
-    neighbour: Solid,
-    others: &[u16],
-) -> bool
+#[tactic(auto, using(crate::proofs::TwoEndsLaws::pair_of_both))]
+fn share_edge(vertices: &[u16], element: Element, neighbour: Element) -> bool
     requires { 1 < length vertices.now }
-    ensures { result ≡ (has_edge vertices.now (element solid corners.now) && has_edge vertices.now (element neighbour others.now)) }
+    ensures { result ≡ (has_edge vertices.now (seen element.entry) && has_edge vertices.now (seen neighbour.entry)) }
 {
-    let u = Vertex(vertices[0]);
-    let v = Vertex(vertices[1]);
-    if 2 < vertices.len() {
-        if sets::are_apart(u, v, Vertex(vertices[2])) {
-            return false;
-        }
-        return share_any_edge(vertices, solid, corners, neighbour, others);
+    let (u, v) = (Vertex(vertices[0]), Vertex(vertices[1]));
+    if vertices.len() == 2 {
+        return both_have_edge(u, v, element, neighbour);
     }
-    if edges::has_edge(u, v, solid, corners) {
-        return edges::has_edge(u, v, neighbour, others);
-    }
-    false
+    !sets::are_apart(u, v, Vertex(vertices[2])) && share_any_edge(vertices, element, neighbour)
 }
 
 // The cycle of the face is that of a face of the element.
-fn has_face(face: Face, solid: Solid, corners: &[u16]) -> bool
-    ensures { result ≡ some (same_face (face_of face)) (faces_of (element solid corners.now)) }
+fn has_face(face: Face, element: Element) -> bool
+    ensures { result ≡ some (same_face (face_of face)) (faces_of (seen element.entry)) }
 {
-    let n = places::face_count(solid);
-    let mut i = 0;
-    while i < n {
-        if faces::same(face, faces::face_of(solid, corners, i)) {
-            return true;
-        }
-        i += 1;
-    }
-    false
+    (0..places::face_count(element.solid)).any(|i| faces::same(face, faces::face_of(element, i)))
 }
 
 // The vertices are all those of the face, and its cycle read backwards is that of a face of the element.
-fn is_shared(vertices: &[u16], face: Face, solid: Solid, corners: &[u16]) -> bool
-    ensures { result ≡ (same_set vertices.now (of_face (face_of face)) && some (same_face (back_face (face_of face))) (faces_of (element solid corners.now))) }
+fn is_shared(vertices: &[u16], face: Face, element: Element) -> bool
+    ensures { result ≡ (same_set vertices.now (of_face (face_of face)) && some (same_face (back_face (face_of face))) (faces_of (seen element.entry))) }
 {
-    if sets::has_corners(vertices, face) {
-        return has_face(faces::back(face), solid, corners);
-    }
-    false
+    sets::has_corners(vertices, face) && has_face(faces::back(face), element)
 }
 
 // The vertices are all those of a face of both elements, whose cycle in one is its cycle in the other read backwards.
-fn share_face(
-    vertices: &[u16],
-    solid: Solid,
-    corners: &[u16],
-    neighbour: Solid,
-    others: &[u16],
-) -> bool
-    ensures { result ≡ share_face vertices.now (element solid corners.now) (element neighbour others.now) }
+fn share_face(vertices: &[u16], element: Element, neighbour: Element) -> bool
+    ensures { result ≡ share_face vertices.now (seen element.entry) (seen neighbour.entry) }
 {
-    let n = places::face_count(solid);
-    let mut i = 0;
-    while i < n {
-        if is_shared(
-            vertices,
-            faces::face_of(solid, corners, i),
-            neighbour,
-            others,
-        ) {
-            return true;
-        }
-        i += 1;
-    }
-    false
+    (0..places::face_count(element.solid)).any(|i| is_shared(
+        vertices,
+        faces::face_of(element, i),
+        neighbour,
+    ))
 }
 
 // The elements of two records fit.
 pub fn pair_fits(a: &[u16], b: &[u16]) -> bool
     ensures { result ≡ fits (element_of a.now) (element_of b.now) }
 {
-    let corners_a = records::corners_of(a);
-    let corners_b = records::corners_of(b);
-    let mut found = [0u16; 8];
-    let n = sets::common_of(corners_a, corners_b, &mut found);
-    if n <= 1 {
+    let (element, neighbour) = (Element::of(a), Element::of(b));
+    let common = Common::of(element, neighbour);
+    let vertices = common.as_slice();
+    if vertices.len() <= 1 {
         return true;
     }
-    let solid_a = records::solid_of(records::kind_of(a));
-    let solid_b = records::solid_of(records::kind_of(b));
-    let common = &found[..n];
-    if share_edge(common, solid_a, corners_a, solid_b, corners_b) {
-        return true;
-    }
-    share_face(common, solid_a, corners_a, solid_b, corners_b)
+    share_edge(vertices, element, neighbour) || share_face(vertices, element, neighbour)
 }

@@ -7,7 +7,9 @@ use mathlib.Core.Bool.{Bool, true, false, cond, ◌&&◌, true≢false}
 use mathlib.Core.List.{List, [], ◌∷◌}
 use lib.Dec.{eqb, leb}
 use lib.ListN.{length, get_or}
-use borrow.Author.Tests.{eqb-true, eqb-false, not-false}
+use lib.IntN.{ℤ}
+use borrow.Author.Tests.{eqb-true, not-false}
+use Rattle.std.specs.Prelude.{Option, Some, None, Result, Ok, Err}
 use Rattle.limits.specs.Limits.{line_end, space, comma, digit0, number_digits, mark_width}
 use Rattle.laws.specs.Pieces.{Pieces, rest, piece, push, split}
 use Rattle.laws.proofs.PieceLaws.{Free}
@@ -21,14 +23,9 @@ use Rattle.format.specs.declared.Mark.{Mark}
 use Rattle.format.specs.declared.Mark.TheVariants.{Unknown}
 use Rattle.format.specs.declared.Role.{Role}
 use Rattle.format.specs.declared.Role.TheVariants.{VertexLine, ElementLine, EndLine, UnknownLine}
-use Rattle.format.specs.declared.Spelt.{Spelt}
-use Rattle.format.specs.declared.Spelt.TheVariants.{Of, Not}
-use Rattle.format.specs.declared.Coordinate.{Coordinate}
-use Rattle.format.specs.declared.Coordinate.TheVariants.{Wrong}
-use Rattle.format.specs.declared.Judged.{Judged}
-use Rattle.format.specs.declared.Judged.TheVariants.{Passed, Failed}
 use Rattle.format.specs.declared.ReaderState.{ReaderState}
 use Rattle.format.specs.declared.Rooms.{Rooms}
+use Rattle.format.proofs.CutLaws.{uncut_free}
 use Rattle.format.proofs.NumberLaws.{no_number, spelt_above, above_free}
 use Rattle.format.proofs.MarkLaws.{comma-first, comma-second}
 use Rattle.format.proofs.FileLaws.{Taken, accepted-holds}
@@ -57,29 +54,13 @@ module _ (s b : ℕ) (n : s ≡ b → ⊥) where
   pieces_free [] f = tt
   pieces_free (x ∷ t) f = first_free x t (pieces_free t) (eqb x s) refl f
 
-cut-push : (x : ℕ) (p : Pieces) → cut (push x p) ≡ cut p
-unfolding push
-cut-push x (rest l) = refl
-cut-push x (piece l p) = refl
-
-uncut_first : (b x : ℕ) (t : List ℕ) → (cut (split b t) ≡ false → Free b t) → (q : Bool) → eqb x b ≡ q
-    → cut (cond q (piece [] (split b t)) (push x (split b t))) ≡ false → Free b (x ∷ t)
-uncut_first b x t ih true e h = absurd (true≢false h)
-uncut_first b x t ih false e h = (eqb-false x b e, ih (sym (cut-push x (split b t)) ∙ h))
-
--- a text that is not cut at b does not hold it
-uncut_free : (b : ℕ) (t : List ℕ) → cut (split b t) ≡ false → Free b t
-unfolding split
-uncut_free b [] e = tt
-uncut_free b (x ∷ t) e = uncut_first b x t (uncut_free b t) (eqb x b) refl e
-
 -- ---- a field
 
-no_pass : {X : Type 0} (f : Fault) → Failed f ≡ Passed → X
+no_pass : {X : Type 0} (f : Fault) → Err f ≡ Ok (tt {0}) → X
 no_pass f h = let z : ◌≡◌ {A = ℕ} 0 1 = cc in absurd (omega arith)
 
 -- digits are no comma
-spelt_free : (n m : ℕ) (l : List ℕ) → spelt n l ≡ Of m → Free comma l
+spelt_free : (n m : ℕ) (l : List ℕ) → spelt n l ≡ Some m → Free comma l
 spelt_free n m l h = above_free digit0 comma l (omega arith) (spelt_above n m l h)
 
 zero_free : (l : List ℕ) → eqb (get_or l 0 0) digit0 ≡ true → eqb (length l) 1 ≡ true → Free comma l
@@ -88,38 +69,38 @@ zero_free (x ∷ []) e h = let z = eqb-true x digit0 e in (λ q. omega arith, tt
 zero_free (x ∷ y ∷ l) e h = let z = eqb-true (length (x ∷ y ∷ l)) 1 h in absurd (omega arith)
 
 -- a vertex number or count holds no comma
-number_free : (n : ℕ) (l : List ℕ) → number_of l ≡ Of n → Free comma l
+number_free : (n : ℕ) (l : List ℕ) → number_of l ≡ Some n → Free comma l
 unfolding number_of whole
 number_free n l = by (eqb (length l) 0) (eqb (get_or l 0 0) digit0) (eqb (length l) 1) (leb (length l) number_digits) refl refl
   where
     by : (a b c d : Bool) → eqb (get_or l 0 0) digit0 ≡ b → eqb (length l) 1 ≡ c
-        → cond a Not (cond b (cond c (Of 0) Not) (cond d (spelt 0 l) Not)) ≡ Of n → Free comma l
+        → cond a None (cond b (cond c (Some 0) None) (cond d (spelt 0 l) None)) ≡ Some n → Free comma l
     by true b c d p q h = no_number n h
     by false true true d p q h = zero_free l p q
     by false true false d p q h = no_number n h
     by false false c true p q h = spelt_free 0 n l h
     by false false c false p q h = no_number n h
 
-wrong_where : (a : Bool) (f : Fault) (c : Coordinate) → judge_coordinate (cond a (Wrong f) c) ≡ Passed → a ≡ false
+wrong_where : (a : Bool) (f : Fault) (c : Result ℤ Fault) → judge_coordinate (cond a (Err f) c) ≡ Ok tt → a ≡ false
 wrong_where true f c h = no_pass f h
 wrong_where false f c h = refl
 
 -- a coordinate that passes holds no comma
-coordinate_free : (l : List ℕ) → judge_coordinate (coordinate_of l) ≡ Passed → Free comma l
+coordinate_free : (l : List ℕ) → judge_coordinate (coordinate_of l) ≡ Ok tt → Free comma l
 unfolding coordinate_of
 coordinate_free l h = uncut_free comma l (wrong_where (cut (split comma l)) _ _ h)
 
-count_free : (l : List ℕ) (a : Spelt) → number_of l ≡ a → judge_count a ≡ Passed → Free comma l
-count_free l (Of n) e h = number_free n l e
-count_free l Not e h = no_pass fault.Number h
+count_free : (l : List ℕ) (a : Option ℕ) → number_of l ≡ a → judge_count a ≡ Ok tt → Free comma l
+count_free l (Some n) e h = number_free n l e
+count_free l None e h = no_pass fault.Number h
 
-vertex_free : (count : ℕ) (l : List ℕ) (a : Spelt) → number_of l ≡ a → judge_vertex count a ≡ Passed → Free comma l
-vertex_free count l (Of n) e h = number_free n l e
-vertex_free count l Not e h = no_pass fault.Number h
+vertex_free : (count : ℕ) (l : List ℕ) (a : Option ℕ) → number_of l ≡ a → judge_vertex count a ≡ Ok tt → Free comma l
+vertex_free count l (Some n) e h = number_free n l e
+vertex_free count l None e h = no_pass fault.Number h
 
 module _ (state : ReaderState) where
   -- a field that passes holds no comma
-  field_free : (role : Role) (l : List ℕ) → bad_mark state role ≡ false → field_verdict state role l ≡ Passed → Free comma l
+  field_free : (role : Role) (l : List ℕ) → bad_mark state role ≡ false → field_verdict state role l ≡ Ok tt → Free comma l
   unfolding bad_mark field_verdict
   field_free VertexLine l k h = coordinate_free l h
   field_free ElementLine l k h = vertex_free state.vertices l (number_of l) refl h
@@ -127,12 +108,12 @@ module _ (state : ReaderState) where
   field_free UnknownLine l k h = absurd (true≢false k)
 
   more_free : (role : Role) (l : List ℕ) (p : Pieces) → bad_mark state role ≡ false
-      → (fields_verdict state role p ≡ Passed → FreePieces comma p) → (j : Judged) → field_verdict state role l ≡ j
-      → first j (fields_verdict state role p) ≡ Passed → Free comma l × FreePieces comma p
-  more_free role l p k ih Passed e h = (field_free role l k e, ih h)
-  more_free role l p k ih (Failed f) e h = no_pass f h
+      → (fields_verdict state role p ≡ Ok tt → FreePieces comma p) → (j : Result (Unit {0}) Fault) → field_verdict state role l ≡ j
+      → first j (fields_verdict state role p) ≡ Ok tt → Free comma l × FreePieces comma p
+  more_free role l p k ih (Ok tt) e h = (field_free role l k e, ih h)
+  more_free role l p k ih (Err f) e h = no_pass f h
 
-  fields_free : (role : Role) (p : Pieces) → bad_mark state role ≡ false → fields_verdict state role p ≡ Passed → FreePieces comma p
+  fields_free : (role : Role) (p : Pieces) → bad_mark state role ≡ false → fields_verdict state role p ≡ Ok tt → FreePieces comma p
   unfolding fields_verdict
   fields_free role (rest l) k h = field_free role l k h
   fields_free role (piece l p) k h = more_free role l p k (λ q. fields_free role p k q) (field_verdict state role l) refl h

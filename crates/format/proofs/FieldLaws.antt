@@ -1,22 +1,22 @@
 -- Laws of fields: a line's fields by where its first space stands, the values of the first ones, and the first fault of several.
 -- Assumes nothing.
-use Prim.Native.Nat.{ℕ, zero, suc, ◌+◌, ◌-◌, ◌≤◌, ◌<◌}
-use native.Mathlib.Nat.{eq-or-lt_of_le, le_of_eq}
+use Prim.Native.Nat.{ℕ, zero, suc, ◌+◌, ◌-◌, ◌≤◌}
 use native.Mathlib.Numerals.{sub-one}
 use native.Mathlib.Omega.{arith}
-use mathlib.Core.Path.{◌≡◌, refl, sym, ap, ◌∙◌}
-use mathlib.Core.Logic.{⊎_elim}
-use mathlib.Core.Bool.{true, false}
+use mathlib.Core.Path.{◌≡◌, refl, ap, ◌∙◌}
+use mathlib.Core.Logic.{◌⊎◌, ⊎_elim}
+use mathlib.Core.Bool.{Bool, true, false, not, ◌&&◌}
 use mathlib.Core.List.{List, [], ◌∷◌, append-nil}
-use lib.Dec.{eqb, eqb-suc-suc}
-use lib.ListN.{length, take, drop, drop_of_length-le}
-use lib.Seq.{sets, sets-eq, take_all, length-take-le}
+use lib.Dec.{eqb}
+use borrow.Author.Tests.{ne_eqb}
+use lib.ListN.{length, drop_of_length-le}
+use lib.Seq.{sets, sets-eq}
+use Rattle.std.specs.Prelude.{Ok, Err}
 use Rattle.limits.specs.Limits.{space}
-use Rattle.laws.specs.Pieces.{Pieces, rest, piece, split, FirstAt}
+use Rattle.laws.specs.Pieces.{Pieces, rest, piece, split}
 use Rattle.faults.specs.declared.Fault.{Fault}
 use Rattle.format.specs.Line.{some, are_fields, first_of, first, field_verdict, fields_verdict}
 use Rattle.format.specs.declared.Role.{Role}
-use Rattle.format.specs.declared.Judged.TheVariants.{Failed}
 use Rattle.format.specs.declared.ReaderState.{ReaderState}
 
 -- ---- the number of fields
@@ -30,41 +30,35 @@ pub some_bytes : (l : List ℕ) → (length l ≡ 0 → ⊥) → some l ≡ true
 some_bytes [] h = absurd (h refl)
 some_bytes (x ∷ l) h = refl
 
-empty_first : (n : ℕ) (p : Pieces) → are_fields n (piece [] p) ≡ false
-unfolding are_fields
-empty_first zero p = refl
-empty_first (suc n) p = refl
-
-nothing : (n : ℕ) → are_fields n (rest []) ≡ false
-unfolding are_fields
-nothing zero = refl
-nothing (suc n) = refl
-
 -- the first field is empty
-pub fields_empty : (n : ℕ) (t : List ℕ) → FirstAt space t 0 → are_fields n (split space t) ≡ false
-unfolding split
-fields_empty n [] k = nothing n
-fields_empty n (x ∷ t) k = ap (are_fields n) (k.hit (omega arith)) ∙ empty_first n _
+pub fields_empty : (n : ℕ) (l : List ℕ) (p : Pieces) → length l ≡ 0 → are_fields n (piece l p) ≡ false
+unfolding are_fields
+fields_empty zero l p e = refl
+fields_empty (suc n) [] p e = refl
+fields_empty (suc n) (x ∷ l) p e = absurd (omega arith)
 
-module _ (t : List ℕ) (r : ℕ) (k : FirstAt space t r) (h : r ≡ 0 → ⊥) where
-  last_of : (n : ℕ) → (n ≡ 0 → ⊥) → (length t ≡ 0 → ⊥) → are_fields n (rest t) ≡ eqb n 1
-  unfolding are_fields
-  last_of zero z e = absurd (z refl)
-  last_of (suc n) z e = rw (some_bytes t e) (sym (eqb-suc-suc n 0))
+-- more fields follow
+pub fields_more : (n : ℕ) (l : List ℕ) (p : Pieces) → (n ≡ 0 → ⊥) → (length l ≡ 0 → ⊥) → are_fields n (piece l p) ≡ are_fields (n - 1) p
+unfolding are_fields
+fields_more zero l p z e = absurd (z refl)
+fields_more (suc n) [] p z e = absurd (e refl)
+fields_more (suc n) (x ∷ l) p z e = rw sub-one
 
-  -- the first field is the last
-  pub fields_last : (n : ℕ) → (n ≡ 0 → ⊥) → r ≡ length t → are_fields n (split space t) ≡ eqb n 1
-  fields_last n z e = rw (k.miss (le_of_eq (sym e))) (last_of n z (λ q. h (e ∙ q)))
+-- the first field is the last, and one is wanted
+pub fields_last : (l : List ℕ) → are_fields 1 (rest l) ≡ not (eqb (length l) 0)
+unfolding are_fields
+fields_last [] = refl
+fields_last (x ∷ l) = rw (ne_eqb (length (x ∷ l)) 0 (λ e. omega arith))
 
-  more_of : (n : ℕ) (p : Pieces) → (n ≡ 0 → ⊥) → are_fields n (piece (take r t) p) ≡ are_fields (n - 1) p
-  unfolding are_fields
-  more_of zero p z = absurd (z refl)
-  more_of (suc n) p z = rw (some_bytes (take r t) (λ q. h (sym (length-take-le r t k.high) ∙ q)), sub-one)
-
-  -- more fields follow
-  pub fields_more : (n : ℕ) → (n ≡ 0 → ⊥) → r < length t
-      → are_fields n (split space t) ≡ are_fields (n - 1) (split space (drop (r + 1) t))
-  fields_more n z j = rw (k.hit j) (more_of n _ z)
+-- the first field is the last, and another number is wanted
+pub fields_other : (n : ℕ) (l : List ℕ) → (n ≡ 1 → ⊥) → are_fields n (rest l) ≡ false
+unfolding are_fields
+fields_other zero l z = refl
+fields_other (suc n) l z = rw (ne_eqb n 0 (λ e. z (ap suc e))) (none (some l))
+  where
+    none : (b : Bool) → (b && false) ≡ false
+    none true = refl
+    none false = refl
 
 -- ---- the values of the first fields
 
@@ -80,25 +74,20 @@ module _ {A : Type 0} (f : List ℕ → A) where
   first-none zero p e = refl
   first-none (suc n) p e = absurd (omega arith)
 
-  module _ (t : List ℕ) (r : ℕ) (k : FirstAt space t r) where
-    last_value : (n : ℕ) → length t ≤ r
-        → first_of f (suc n) (split space t) ≡ f (take r t) ∷ first_of f n (split space (drop (r + 1) t))
-    unfolding first_of split
-    last_value n e =
-        let j : length t ≤ r + 1 = omega arith in
-        rw (k.miss e, take_all r t e, drop_of_length-le t j)
+  one_more : (n : ℕ) (l : List ℕ) (p : Pieces) → first_of f (suc n) (piece l p) ≡ f l ∷ first_of f n p
+  unfolding first_of
+  one_more n l p = refl
 
-    next_value : (n : ℕ) → r < length t
-        → first_of f (suc n) (split space t) ≡ f (take r t) ∷ first_of f n (split space (drop (r + 1) t))
-    unfolding first_of
-    next_value n e = rw (k.hit e)
+  one_last : (n : ℕ) (l : List ℕ) → first_of f (suc n) (rest l) ≡ f l ∷ first_of f n (split space [])
+  unfolding first_of split
+  one_last n l = refl
 
-    -- the first field, then those behind it
-    pub first_more : (n m : ℕ) → n ≡ suc m
-        → first_of f n (split space t) ≡ f (take r t) ∷ first_of f m (split space (drop (r + 1) t))
-    first_more n m q =
-        ap (λ (j : ℕ). first_of f j (split space t)) q
-        ∙ ⊎_elim (λ e. last_value m (le_of_eq (sym e))) (λ e. next_value m e) (eq-or-lt_of_le k.high)
+  -- the first field l, then those of u behind it, which is nothing behind the last
+  pub first_then : (t l u : List ℕ) → (split space t ≡ piece l (split space u)) ⊎ ((split space t ≡ rest l) × (u ≡ [])) → (n m : ℕ) → n ≡ suc m
+      → first_of f n (split space t) ≡ f l ∷ first_of f m (split space u)
+  first_then t l u e n m q =
+      ap (λ (j : ℕ). first_of f j (split space t)) q
+      ∙ ⊎_elim (λ h. rw h (one_more m l (split space u))) (λ h. rw (h.0, h.1) (one_last m l)) e
 
 -- as many stores as there is room are all there is
 pub sets-whole : {A : Type 0} (vs l : List A) → length vs ≡ length l → sets l 0 vs ≡ vs
@@ -109,17 +98,18 @@ sets-whole vs l e =
 
 -- ---- the first fault
 
-module _ (state : ReaderState) (role : Role) (t : List ℕ) (r : ℕ) (k : FirstAt space t r) where
-  pub verdict_last : length t ≤ r → fields_verdict state role (split space t) ≡ field_verdict state role (take r t)
+module _ (state : ReaderState) (role : Role) where
+  pub verdict_last : (l : List ℕ) → fields_verdict state role (rest l) ≡ field_verdict state role l
   unfolding fields_verdict
-  verdict_last e = rw (k.miss e, take_all r t e)
+  verdict_last l = refl
 
-  pub verdict_more : r < length t
-      → fields_verdict state role (split space t)
-      ≡ first (field_verdict state role (take r t)) (fields_verdict state role (split space (drop (r + 1) t)))
+  verdict_on : (l : List ℕ) (p : Pieces) → fields_verdict state role (piece l p) ≡ first (field_verdict state role l) (fields_verdict state role p)
   unfolding fields_verdict
-  verdict_more e = rw (k.hit e)
+  verdict_on l p = refl
 
-  pub verdict_failed : (f : Fault) → field_verdict state role (take r t) ≡ Failed f → fields_verdict state role (split space t) ≡ Failed f
-  verdict_failed f h =
-      ⊎_elim (λ e. verdict_last (le_of_eq (sym e)) ∙ h) (λ e. verdict_more e ∙ rw h) (eq-or-lt_of_le k.high)
+  -- the first field passes: the whole is judged as what stands behind it
+  pub verdict_passed : (l : List ℕ) (p : Pieces) → field_verdict state role l ≡ Ok tt → fields_verdict state role (piece l p) ≡ fields_verdict state role p
+  verdict_passed l p e = verdict_on l p ∙ rw e
+
+  pub verdict_failed : (f : Fault) (l : List ℕ) (p : Pieces) → field_verdict state role l ≡ Err f → fields_verdict state role (piece l p) ≡ Err f
+  verdict_failed f l p e = verdict_on l p ∙ rw e

@@ -2,26 +2,23 @@
 -- Assumes nothing.
 use Prim.Native.Nat.{ℕ, ◌+◌, ◌≤◌, ◌<◌}
 use native.Mathlib.Omega.{arith}
-use mathlib.Core.Path.{◌≡◌, refl, sym, ap, ◌∙◌}
+use mathlib.Core.Path.{◌≡◌, refl, sym, ◌∙◌}
 use mathlib.Core.Bool.{Bool, true, false, cond, not}
 use mathlib.Core.List.{List, [], ◌∷◌}
 use lib.Dec.{ltb}
-use lib.ListN.{length, take, drop}
+use lib.ListN.{length}
 use borrow.Author.Tests.{ltb-false}
+use Rattle.std.specs.Prelude.{Result, Ok, Err}
 use Rattle.limits.specs.Limits.{line_end, file_limit}
-use Rattle.laws.specs.Pieces.{Pieces, rest, piece, split, FirstAt}
+use Rattle.laws.specs.Pieces.{Pieces, rest, piece, split}
 use Rattle.faults.specs.Refusals.{Verdict, accepted, refused, refuse}
 use Rattle.faults.specs.declared.Fault.{Fault}
 use Rattle.faults.specs.declared.Fault.TheVariants as fault
 use Rattle.faults.specs.declared.Refusal.{Refusal}
 use Rattle.format.specs.Line.{mark_of, role_of, wants, fields_of, fields_verdict, bad_mark, too_many, bad_shape, no_room, bad_counts, after, given, judged, line_verdict}
 use Rattle.format.specs.File.{start, lines_of, at_end, onward, file_from, file_verdict}
-use Rattle.format.specs.declared.Judged.{Judged}
-use Rattle.format.specs.declared.Judged.TheVariants.{Passed, Failed}
 use Rattle.format.specs.declared.ReaderState.{ReaderState}
 use Rattle.format.specs.declared.Rooms.{Rooms}
-use Rattle.format.specs.declared.Line.{Line}
-use Rattle.format.specs.declared.Line.TheVariants.{Next, No}
 
 -- ---- an accepted line
 
@@ -30,15 +27,15 @@ pub record Taken (rooms : Rooms) (state : ReaderState) (l : List ℕ) (next : Re
   pub known : bad_mark state (role_of (mark_of l)) ≡ false
   pub few : too_many state (role_of (mark_of l)) ≡ false
   pub shaped : bad_shape (wants (mark_of l)) l ≡ false
-  pub passed : fields_verdict state (role_of (mark_of l)) (fields_of l) ≡ Passed
+  pub passed : fields_verdict state (role_of (mark_of l)) (fields_of l) ≡ Ok tt
   pub room : no_room rooms state (role_of (mark_of l)) ≡ false
   pub same : next ≡ after state l
 
-no-next : {X : Type 0} (f : Fault) (s : ReaderState) → No f ≡ Next s → X
+no-next : {X : Type 0} (f : Fault) (s : ReaderState) → Err f ≡ Ok s → X
 no-next f s h = let z : ◌≡◌ {A = ℕ} 0 1 = cc in absurd (omega arith)
 
 module _ (rooms : Rooms) (state : ReaderState) (l : List ℕ) (next : ReaderState) where
-  through : (a b c d e : Bool) (j : Judged) (g h : Bool)
+  through : (a b c d e : Bool) (j : Result (Unit {0}) Fault) (g h : Bool)
       → bad_mark state (role_of (mark_of l)) ≡ c
       → too_many state (role_of (mark_of l)) ≡ d
       → bad_shape (wants (mark_of l)) l ≡ e
@@ -49,20 +46,20 @@ module _ (rooms : Rooms) (state : ReaderState) (l : List ℕ) (next : ReaderStat
       (given c fault.Mark
       (given d fault.Many
       (given e fault.Shape
-      (judged j (given g fault.Room (given h fault.End (Next (after state l)))))))))
-      ≡ Next next
+      (judged j (given g fault.Room (given h fault.End (Ok (after state l)))))))))
+      ≡ Ok next
       → Taken rooms state l next
   through true b c d e j g h k m o p q n = no-next fault.Mark next n
   through false true c d e j g h k m o p q n = no-next fault.Shape next n
   through false false true d e j g h k m o p q n = no-next fault.Mark next n
   through false false false true e j g h k m o p q n = no-next fault.Many next n
   through false false false false true j g h k m o p q n = no-next fault.Shape next n
-  through false false false false false (Failed f) g h k m o p q n = no-next f next n
-  through false false false false false Passed true h k m o p q n = no-next fault.Room next n
-  through false false false false false Passed false true k m o p q n = no-next fault.End next n
-  through false false false false false Passed false false k m o p q n = record { known = k; few = m; shaped = o; passed = p; room = q; same = cc }
+  through false false false false false (Err f) g h k m o p q n = no-next f next n
+  through false false false false false (Ok tt) true h k m o p q n = no-next fault.Room next n
+  through false false false false false (Ok tt) false true k m o p q n = no-next fault.End next n
+  through false false false false false (Ok tt) false false k m o p q n = record { known = k; few = m; shaped = o; passed = p; room = q; same = cc }
 
-  pub line_taken : (closed : Bool) → line_verdict rooms state closed l ≡ Next next → Taken rooms state l next
+  pub line_taken : (closed : Bool) → line_verdict rooms state closed l ≡ Ok next → Taken rooms state l next
   unfolding line_verdict
   line_taken closed =
       through state.ended (not closed) (bad_mark state (role_of (mark_of l))) (too_many state (role_of (mark_of l)))
@@ -79,7 +76,7 @@ module _ (rooms : Rooms) (state : ReaderState) (n : ℕ) where
   file-end (x ∷ t) h = absurd (omega arith)
 
   either : (b : Bool) (next : ReaderState → Verdict (List ℕ))
-      → onward (cond b (No fault.Mark) (No fault.Shape)) n next ≡ refused (refuse (cond b fault.Mark fault.Shape) n)
+      → onward (cond b (Err fault.Mark) (Err fault.Shape)) n next ≡ refused (refuse (cond b fault.Mark fault.Shape) n)
   either true next = refl
   either false next = refl
 
@@ -94,21 +91,19 @@ module _ (rooms : Rooms) (state : ReaderState) (n : ℕ) where
   cut_off [] h = absurd (omega arith)
   cut_off (x ∷ t) h = open_refused (x ∷ t) (λ s. at_end s (n + 1))
 
-  module _ (t : List ℕ) (r : ℕ) (k : FirstAt line_end t r) where
-    -- the last line lacks its byte 10
-    pub file_open : 0 < length t → length t ≤ r → file_from rooms state n (split line_end t) ≡ refused (refuse (cond state.ended fault.Mark fault.Shape) n)
-    file_open h e = rw (k.miss e) (cut_off t h)
+  -- the last line lacks its byte 10
+  pub file_open : (t : List ℕ) → split line_end t ≡ rest t → 0 < length t
+      → file_from rooms state n (split line_end t) ≡ refused (refuse (cond state.ended fault.Mark fault.Shape) n)
+  file_open t e h = rw e (cut_off t h)
 
-    step : r < length t
-        → file_from rooms state n (split line_end t)
-        ≡ onward (line_verdict rooms state true (take r t)) n (λ s. file_from rooms s (n + 1) (split line_end (drop (r + 1) t)))
-    unfolding file_from
-    step h = ap (file_from rooms state n) (k.hit h)
+  first_no : (l : List ℕ) (p : Pieces) (f : Fault) → line_verdict rooms state true l ≡ Err f → file_from rooms state n (piece l p) ≡ refused (refuse f n)
+  unfolding file_from
+  first_no l p f e = rw e
 
-    -- the line is refused
-    pub file-no : (f : Fault) → r < length t → line_verdict rooms state true (take r t) ≡ No f
-        → file_from rooms state n (split line_end t) ≡ refused (refuse f n)
-    file-no f h e = step h ∙ rw e
+  -- the line is refused
+  pub file-no : (t l : List ℕ) (p : Pieces) (f : Fault) → split line_end t ≡ piece l p → line_verdict rooms state true l ≡ Err f
+      → file_from rooms state n (split line_end t) ≡ refused (refuse f n)
+  file-no t l p f k e = rw k (first_no l p f e)
 
 -- ---- an accepted file, line by line
 
@@ -135,10 +130,10 @@ module _
 
     at-line : (state : ReaderState) (n : ℕ) (l : List ℕ) (p : Pieces)
         → ((s : ReaderState) → file_from rooms s (n + 1) p ≡ accepted cs → P s p)
-        → (x : Line) → line_verdict rooms state true l ≡ x → onward x n (λ s. file_from rooms s (n + 1) p) ≡ accepted cs
+        → (x : Result ReaderState Fault) → line_verdict rooms state true l ≡ x → onward x n (λ s. file_from rooms s (n + 1) p) ≡ accepted cs
         → P state (piece l p)
-    at-line state n l p ih (No f) q e = no_accept (refuse f n) cs e
-    at-line state n l p ih (Next s) q e =
+    at-line state n l p ih (Err f) q e = no_accept (refuse f n) cs e
+    at-line state n l p ih (Ok s) q e =
         let t = line_taken rooms state l s true q in
         line state l p (rw t.same at t) (ih (after state l) (rw t.same at e))
 

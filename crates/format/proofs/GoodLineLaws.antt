@@ -6,6 +6,7 @@ use mathlib.Core.Path.{◌≡◌, refl, sym, ap, ◌∙◌}
 use mathlib.Core.Bool.{true, false, true≢false}
 use mathlib.Core.List.{List, [], ◌∷◌, ◌++◌, map, append-nil}
 use lib.ListN.{length, get_or, drop, replicate, length-append, length-map, length-replicate}
+use Rattle.std.specs.Prelude.{Ok}
 use Rattle.limits.specs.Limits.{line_end, space, minus, fields_at, mark_width, vertex_width, corner_width}
 use Rattle.laws.specs.Pieces.{Pieces, rest, piece, split}
 use Rattle.laws.proofs.PieceLaws.{Free, split-joined, split_free}
@@ -17,14 +18,12 @@ use Rattle.format.specs.declared.Mark.{Mark}
 use Rattle.format.specs.declared.Mark.TheVariants.{Vx, Te, Py, Pz, Pr, Hx, En, Unknown}
 use Rattle.format.specs.declared.Role.{Role}
 use Rattle.format.specs.declared.Role.TheVariants.{VertexLine, ElementLine}
-use Rattle.format.specs.declared.Judged.TheVariants.{Passed}
 use Rattle.format.specs.declared.ReaderState.{ReaderState}
 use Rattle.format.specs.declared.Rooms.{Rooms}
-use Rattle.format.specs.declared.Line.TheVariants.{Next}
 use Rattle.format.proofs.NumberLaws.{above_append, above_lower, above_free}
 use Rattle.format.proofs.MarkLaws.{low_first, low_second}
 use Rattle.format.proofs.FieldLaws.{some_bytes}
-use Rattle.format.proofs.LineLaws.{line-next}
+use Rattle.format.proofs.LineLaws.{passing-accepted}
 use Rattle.format.proofs.FileRecordLaws.{corners-plain}
 
 -- ---- fields
@@ -49,7 +48,7 @@ module _ (state : ReaderState) (role : Role) where
   pieces_counted f [] e = rw (some_bytes f (λ z. omega (arith, e.0.some)))
   pieces_counted f (g ∷ fs) e = rw (some_bytes f (λ z. omega (arith, e.0.some))) (pieces_counted g fs e.1)
 
-  pieces_pass : (f : List ℕ) (fs : List (List ℕ)) → Each (Good state role) (f ∷ fs) → fields_verdict state role (in_pieces (f ∷ fs)) ≡ Passed
+  pieces_pass : (f : List ℕ) (fs : List (List ℕ)) → Each (Good state role) (f ∷ fs) → fields_verdict state role (in_pieces (f ∷ fs)) ≡ Ok tt
   unfolding fields_verdict
   pieces_pass f [] e = e.0.passes
   pieces_pass f (g ∷ fs) e = rw e.0.passes (pieces_pass g fs e.1)
@@ -113,7 +112,7 @@ module _ (state : ReaderState) (role : Role) (a b : ℕ) where
   line_counted [] h e = absurd (omega arith)
   line_counted (f ∷ fs) h e = pieces_counted state role f fs e
 
-  line-passes : (fs : List (List ℕ)) → 0 < length fs → Each (Good state role) fs → fields_verdict state role (in_pieces fs) ≡ Passed
+  line-passes : (fs : List (List ℕ)) → 0 < length fs → Each (Good state role) fs → fields_verdict state role (in_pieces fs) ≡ Ok tt
   line-passes [] h e = absurd (omega arith)
   line-passes (f ∷ fs) h e = pieces_pass state role f fs e
 
@@ -134,19 +133,18 @@ module _ {rooms : Rooms} {state : ReaderState} {mark : Mark} {role : Role} {a b 
   its_shape = rw (line-spaced state role a b fs g.some, its_fields, ← g.count, line_counted state role a b fs g.some g.each)
 
   -- it is accepted
-  pub its_verdict : line_verdict rooms state true (line_of a b fs) ≡ Next (after_role state role)
-  its_verdict =
-      sym (line-next (record {
-        earlier = record {
-          earlier = record {
-            earlier = record { earlier = record { earlier = record { marked = its_mark; said = g.said; going = g.going }; known = g.known }; few = g.few };
-            shaped = its_shape;
-          };
-          passed = ap (fields_verdict state role) its_fields ∙ line-passes state role a b fs g.some g.each;
-        };
-        room = g.room;
-      })
-      (ap (bad_counts state role) its_fields ∙ g.counts))
+  pub its_verdict : line_verdict rooms state true (line_of a b fs) ≡ Ok (after_role state role)
+  its_verdict = passing-accepted (record {
+    marked = its_mark;
+    said = g.said;
+    going = g.going;
+    known = g.known;
+    few = g.few;
+    shaped = its_shape;
+    passed = ap (fields_verdict state role) its_fields ∙ line-passes state role a b fs g.some g.each;
+    room = g.room;
+    counts = ap (bad_counts state role) its_fields ∙ g.counts;
+  })
 
   pub its_next : after state (line_of a b fs) ≡ after_role state role
   unfolding after

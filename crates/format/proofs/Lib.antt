@@ -1,5 +1,6 @@
 -- What is proved of the text file as it is defined.
 pub mod FileSampleLaws
+pub mod CutLaws
 pub mod NumberLaws
 pub mod MarkLaws
 pub mod FieldLaws

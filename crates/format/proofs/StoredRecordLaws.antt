@@ -7,9 +7,11 @@ use mathlib.Core.Path.{◌≡◌, refl, sym, ◌∙◌}
 use mathlib.Core.Bool.{Bool, true, false, cond, ◌&&◌, true≢false}
 use mathlib.Core.List.{List, [], ◌∷◌, ◌++◌, map}
 use lib.Dec.{T, eqb, ltb, leb, eqb→eq, ltb→lt, leb→le, lt→ltb, le→leb}
+use lib.IntN.{ℤ}
 use lib.ListN.{length, get_or, take, drop, length-append}
 use lib.Seq.{drop-drop, take_at, drop_at}
 use borrow.Author.Tests.{le-leb, leb-true, eqb-false, ltb-false, eq-eqb, not-false}
+use Rattle.std.specs.Prelude.{Option, Some, None, Result, Ok, Err}
 use Rattle.limits.specs.Limits.{comma, minus, coordinate_limit, space, vertex_width, element_width, corner_width, mark_width}
 use Rattle.laws.specs.Pieces.{Pieces, rest, piece, split}
 use Rattle.laws.specs.Words.{every}
@@ -31,12 +33,6 @@ use Rattle.format.specs.declared.Mark.{Mark}
 use Rattle.format.specs.declared.Mark.TheVariants.{Vx, Te, Py, Pz, Pr, Hx, En, Unknown}
 use Rattle.format.specs.declared.Role.{Role}
 use Rattle.format.specs.declared.Role.TheVariants.{VertexLine, ElementLine, EndLine, UnknownLine}
-use Rattle.format.specs.declared.Spelt.{Spelt}
-use Rattle.format.specs.declared.Spelt.TheVariants.{Of, Not}
-use Rattle.format.specs.declared.Coordinate.{Coordinate}
-use Rattle.format.specs.declared.Coordinate.TheVariants.{Thousandths, Wrong}
-use Rattle.format.specs.declared.Judged.{Judged}
-use Rattle.format.specs.declared.Judged.TheVariants.{Passed, Failed}
 use Rattle.format.specs.declared.ReaderState.{ReaderState}
 use Rattle.format.specs.declared.Rooms.{Rooms}
 use Rattle.format.proofs.FieldLaws.{none_wanted}
@@ -44,10 +40,10 @@ use Rattle.format.proofs.FileLaws.{Taken, accepted-holds}
 
 -- ---- a coordinate that is read is within the limits
 
-record Ranged (c : Coordinate) : Type 0 where
+record Ranged (c : Result ℤ Fault) : Type 0 where
   in_range_lem : T (in_range (thousandths_in c))
 
-wrong_ranged : (f : _) → Ranged (Wrong f)
+wrong_ranged : (f : _) → Ranged (Err f)
 unfolding in_range
 wrong_ranged f = record { in_range_lem = tt }
 
@@ -57,16 +53,16 @@ signed-ranged false n h = true-T (le-leb n coordinate_limit h)
 signed-ranged true zero h = tt
 signed-ranged true (suc n) h = and_both (leb n 499999) true (true-T (le-leb n 499999 (omega arith))) tt
 
-millimetres-ranged : (neg : Bool) (w f : Spelt) → Ranged (millimetres neg w f)
+millimetres-ranged : (neg : Bool) (w f : Option ℕ) → Ranged (millimetres neg w f)
 unfolding millimetres
-millimetres-ranged neg (Of w) (Of f) = by (leb (w * 1000 + f) coordinate_limit) refl
+millimetres-ranged neg (Some w) (Some f) = by (leb (w * 1000 + f) coordinate_limit) refl
   where
-    by : (b : Bool) → leb (w * 1000 + f) coordinate_limit ≡ b → Ranged (cond b (Thousandths (signed neg (w * 1000 + f))) (Wrong fault.Range))
+    by : (b : Bool) → leb (w * 1000 + f) coordinate_limit ≡ b → Ranged (cond b (Ok (signed neg (w * 1000 + f))) (Err fault.Range))
     by true e = record { in_range_lem = signed-ranged neg (w * 1000 + f) (leb-true _ _ e) }
     by false e = wrong_ranged fault.Range
-millimetres-ranged neg (Of w) Not = wrong_ranged fault.Number
-millimetres-ranged neg Not (Of f) = wrong_ranged fault.Number
-millimetres-ranged neg Not Not = wrong_ranged fault.Number
+millimetres-ranged neg (Some w) None = wrong_ranged fault.Number
+millimetres-ranged neg None (Some f) = wrong_ranged fault.Number
+millimetres-ranged neg None None = wrong_ranged fault.Number
 
 unsigned-ranged : (neg : Bool) (p : Pieces) → Ranged (unsigned neg p)
 unfolding unsigned
@@ -75,7 +71,7 @@ unsigned-ranged neg (piece w (rest f)) = millimetres-ranged neg _ _
 unsigned-ranged neg (piece w (piece f p)) = wrong_ranged fault.Number
 
 -- of two coordinates that are, the one that a test picks is
-either_ranged : (b : Bool) (c d : Coordinate) → Ranged c → Ranged d → Ranged (cond b c d)
+either_ranged : (b : Bool) (c d : Result ℤ Fault) → Ranged c → Ranged d → Ranged (cond b c d)
 either_ranged true c d f g = f
 either_ranged false c d f g = g
 
@@ -109,31 +105,31 @@ records_ranged state (piece l p) =
 
 -- ---- a vertex number that is read is between 1 and the vertex count
 
-passed_number : (state : ReaderState) (v : ℕ) → state.vertices ≤ v → (l : List ℕ) → field_verdict state ElementLine l ≡ Passed
+passed_number : (state : ReaderState) (v : ℕ) → state.vertices ≤ v → (l : List ℕ) → field_verdict state ElementLine l ≡ Ok tt
     → T (is_number v (value_of l))
 unfolding field_verdict value_of
 passed_number state v h l = by (number_of l)
   where
-    no : {X : Type 0} (f : Fault) → Failed f ≡ Passed → X
+    no : {X : Type 0} (f : Fault) → Err f ≡ Ok (tt {0}) → X
     no f e = let z : ◌≡◌ {A = ℕ} 0 1 = cc in absurd (omega arith)
 
-    by : (s : Spelt) → judge_vertex state.vertices s ≡ Passed → T (is_number v (value_in s))
-    by (Of n) e = tests (eqb n 0) refl (ltb state.vertices n) refl e
+    by : (s : Option ℕ) → judge_vertex state.vertices s ≡ Ok tt → T (is_number v (value_in s))
+    by (Some n) e = tests (eqb n 0) refl (ltb state.vertices n) refl e
       where
         tests : (a : Bool) → eqb n 0 ≡ a → (b : Bool) → ltb state.vertices n ≡ b
-            → cond a (Failed fault.Vertex) (cond b (Failed fault.Vertex) Passed) ≡ Passed → T (is_number v n)
+            → cond a (Err fault.Vertex) (cond b (Err fault.Vertex) (Ok tt)) ≡ Ok (tt {0}) → T (is_number v n)
         tests true p b q e = no fault.Vertex e
         tests false p true q e = no fault.Vertex e
         tests false p false q e =
             and_both (ltb 0 n) (leb n v) (lt→ltb 0 n (let z = eqb-false n 0 p in omega arith))
             (le→leb n v (le_trans (ltb-false state.vertices n q) h))
-    by Not e = no fault.Number e
+    by None e = no fault.Number e
 
 -- ---- the first fields of a line, one by one
 
-both_passed : (j k : Judged) → first j k ≡ Passed → (j ≡ Passed) × (k ≡ Passed)
-both_passed Passed k e = (refl, e)
-both_passed (Failed f) k e = let z : ◌≡◌ {A = ℕ} 0 1 = cc in absurd (omega arith)
+both_passed : (j k : Result (Unit {0}) Fault) → first j k ≡ Ok tt → (j ≡ Ok tt) × (k ≡ Ok tt)
+both_passed (Ok tt) k e = (refl, e)
+both_passed (Err f) k e = let z : ◌≡◌ {A = ℕ} 0 1 = cc in absurd (omega arith)
 
 -- the last of the fields
 last_field : (m : ℕ) (l : List ℕ) → are_fields (suc m) (rest l) ≡ true → m ≡ 0
@@ -152,9 +148,9 @@ module _
     (f : List ℕ → A)
     (Q : A → Type 0)
     (d : A)
-    (passes : (l : List ℕ) → field_verdict state role l ≡ Passed → Q (f l))
+    (passes : (l : List ℕ) → field_verdict state role l ≡ Ok tt → Q (f l))
   where
-    field_at : (n m : ℕ) (p : Pieces) → are_fields m p ≡ true → fields_verdict state role p ≡ Passed → (i : ℕ) → i < n → i < m
+    field_at : (n m : ℕ) (p : Pieces) → are_fields m p ≡ true → fields_verdict state role p ≡ Ok tt → (i : ℕ) → i < n → i < m
         → Q (get_or (first_of f n p) i d)
     unfolding fields_verdict first_of
     field_at zero m p a h i b c = absurd (omega arith)
@@ -187,7 +183,7 @@ module _ (state : ReaderState) (v : ℕ) (low : state.vertices ≤ v) (p : Piece
   abbrev corner : ℕ → ℕ
   corner j = get_or (numbers_of p) j 0
 
-  module _ (k : ℕ) (few : k ≤ corner_width) (a : are_fields k p ≡ true) (h : fields_verdict state ElementLine p ≡ Passed) where
+  module _ (k : ℕ) (few : k ≤ corner_width) (a : are_fields k p ≡ true) (h : fields_verdict state ElementLine p ≡ Ok tt) where
     corners-inside : (js : List ℕ) → T (every (λ j. ltb j k) js) → T (every (is_number v) (map corner js))
     corners-inside =
         every_map (is_number v) corner (λ j. ltb j k)
@@ -199,7 +195,7 @@ module _ (state : ReaderState) (v : ℕ) (low : state.vertices ≤ v) (p : Piece
     corners-zero =
         every_map (eqb 0) corner (λ j. leb k j) (λ j b. true-T (eq-eqb 0 (corner j) (sym (zero-at corner_width k p a j (leb→le k j b)))))
 
-  element_stored : (m : Mark) → role_of m ≡ ElementLine → are_fields (wants m) p ≡ true → fields_verdict state ElementLine p ≡ Passed
+  element_stored : (m : Mark) → role_of m ≡ ElementLine → are_fields (wants m) p ≡ true → fields_verdict state ElementLine p ≡ Ok tt
       → Stored v (element_record state m p)
   unfolding element_record is_kind kind_of used_of spare_of record_of.numbers_of
   element_stored Te e a h = record {
@@ -267,13 +263,13 @@ grows state UnknownLine = le_refl state.vertices
 
 module _ (state : ReaderState) (v : ℕ) (low : state.vertices ≤ v) (l : List ℕ) where
   stored_more : (m : Mark) → mark_of l ≡ m → role_of m ≡ ElementLine → are_fields (wants m) (fields_of l) ≡ true
-      → fields_verdict state ElementLine (fields_of l) ≡ Passed → (more : List ℕ) → EachRecord element_width (Stored v) more
+      → fields_verdict state ElementLine (fields_of l) ≡ Ok tt → (more : List ℕ) → EachRecord element_width (Stored v) more
       → EachRecord element_width (Stored v) (element_record state (mark_of l) (fields_of l) ++ more)
   stored_more m e r a h more g =
       let s : Stored v (element_record state (mark_of l) (fields_of l)) = rw e (element_stored state v low (fields_of l) m r a h) in
       record_more element_width (Stored v) (element_record state (mark_of l) (fields_of l)) more s.wide s g
 
-  stored_by : (m : Mark) → mark_of l ≡ m → are_fields (wants m) (fields_of l) ≡ true → fields_verdict state (role_of m) (fields_of l) ≡ Passed
+  stored_by : (m : Mark) → mark_of l ≡ m → are_fields (wants m) (fields_of l) ≡ true → fields_verdict state (role_of m) (fields_of l) ≡ Ok tt
       → (more : List ℕ) → EachRecord element_width (Stored v) more → EachRecord element_width (Stored v) (element_records state (role_of m) l ++ more)
   unfolding element_records
   stored_by Vx e a h more g = g

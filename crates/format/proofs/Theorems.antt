@@ -16,6 +16,7 @@ use mathlib.Core.List.{List, [], ◌∷◌, map}
 use lib.Dec.{T}
 use lib.ListN.{length}
 use borrow.Author.Tests.{lt-ltb}
+use Rattle.std.specs.Prelude.{Err}
 use Rattle.limits.specs.Limits.{comma, file_limit, vertex_limit, element_limit, vertex_width, element_width}
 use Rattle.laws.specs.Words.{every}
 use Rattle.laws.specs.Pieces.{split}
@@ -29,7 +30,6 @@ use Rattle.format.specs.File.{start, lines_of, file_verdict}
 use Rattle.format.specs.Records.{vertex_records, element_records, records_from, stored_vertices, stored_elements}
 use Rattle.format.specs.StoredRecords.{Stored, EachRecord}
 use Rattle.format.specs.FileSamples.{coordinate_read, coordinate_samples, file_read, file_samples}
-use Rattle.format.specs.declared.Coordinate.TheVariants.{Wrong}
 use Rattle.format.specs.declared.Rooms.{Rooms}
 use Rattle.format.proofs.FileSampleLaws as S
 use Rattle.format.proofs.AcceptedFileLaws.{file-fits}
@@ -52,7 +52,7 @@ long-refused rooms file h = rw (lt-ltb file_limit (length file) h)
 
 -- ---- a comma
 
-pub comma-refused : (l : List ℕ) → cut (split comma l) ≡ true → coordinate_of l ≡ Wrong fault.Comma
+pub comma-refused : (l : List ℕ) → cut (split comma l) ≡ true → coordinate_of l ≡ Err fault.Comma
 unfolding coordinate_of
 comma-refused l h = rw h
 

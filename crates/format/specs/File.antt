@@ -1,14 +1,13 @@
 -- The verdict on a whole text file: LONG, then its lines in order, threading the reader's state.
-use Rattle.std.specs.Prelude.{ℕ, ◌+◌, true, false, cond, List, [], ◌∷◌, length, ltb}
+use Rattle.std.specs.Prelude.{ℕ, ◌+◌, true, false, cond, List, [], ◌∷◌, length, ltb, Result, Ok, Err}
 use Rattle.limits.specs.Limits.{line_end, file_limit}
 use Rattle.laws.specs.Pieces.{Pieces, rest, piece, split}
 use Rattle.faults.specs.Refusals.{Verdict, accepted, refused, refuse}
+use Rattle.faults.specs.declared.Fault.{Fault}
 use Rattle.faults.specs.declared.Fault.TheVariants as fault
 use Rattle.format.specs.Line.{line_verdict}
 use Rattle.format.specs.declared.ReaderState.{ReaderState}
 use Rattle.format.specs.declared.Rooms.{Rooms}
-use Rattle.format.specs.declared.Line.{Line}
-use Rattle.format.specs.declared.Line.TheVariants.{Next, No}
 
 -- before the first line
 unfoldable pub start : ReaderState
@@ -23,9 +22,9 @@ unfoldable pub at_end : ReaderState → ℕ → Verdict (List ℕ)
 at_end state n = cond state.ended (accepted (state.vertices ∷ state.elements ∷ [])) (refused (refuse fault.End n))
 
 -- a line's fault refuses the file with the line's number; else the next line is judged
-abbrev pub onward : Line → ℕ → (ReaderState → Verdict (List ℕ)) → Verdict (List ℕ)
-onward (Next state) n next = next state
-onward (No f) n next = refused (refuse f n)
+abbrev pub onward : Result ReaderState Fault → ℕ → (ReaderState → Verdict (List ℕ)) → Verdict (List ℕ)
+onward (Ok state) n next = next state
+onward (Err f) n next = refused (refuse f n)
 
 -- the lines from the n-th on; what stands after the last byte 10 is a line too, unless it is nothing
 unfoldable pub file_from : Rooms → ReaderState → ℕ → Pieces → Verdict (List ℕ)

@@ -1,5 +1,5 @@
 -- Samples of the text file: those of the page, and one for each reading of it that could be another.
-use Rattle.std.specs.Prelude.{ℕ, List, [], ◌∷◌, ℤ, pos, neg_ℤ}
+use Rattle.std.specs.Prelude.{ℕ, List, [], ◌∷◌, ℤ, pos, neg_ℤ, Result, Ok, Err}
 use Prim.Native.Char.{code}
 use Prim.Native.String as string
 use Prim.Native.String.{String}
@@ -9,8 +9,6 @@ use Rattle.faults.specs.declared.Fault.TheVariants as fault
 use Rattle.format.specs.Number.{coordinate_of}
 use Rattle.format.specs.File.{file_verdict}
 use Rattle.format.specs.Records.{stored_vertices, stored_elements}
-use Rattle.format.specs.declared.Coordinate.{Coordinate}
-use Rattle.format.specs.declared.Coordinate.TheVariants.{Thousandths, Wrong}
 use Rattle.format.specs.declared.Rooms.{Rooms}
 
 -- the bytes of a text
@@ -23,30 +21,30 @@ bytes (string.◌∷◌ c s) = code c ∷ bytes s
 -- a field, and what it says
 pub record CoordinateSample : Type 0 where
   pub field : String
-  pub says : Coordinate
+  pub says : Result ℤ Fault
 
 -- what the definition says of its field
 abbrev pub coordinate_read : CoordinateSample → CoordinateSample
 coordinate_read s = record { field = s.field; says = coordinate_of (bytes s.field) }
 
-abbrev coordinate : String → Coordinate → CoordinateSample
+abbrev coordinate : String → Result ℤ Fault → CoordinateSample
 coordinate s c = record { field = s; says = c }
 
 -- the page's, then minus zero, a leading zero and seven digits
 abbrev pub coordinate_samples : List CoordinateSample
 coordinate_samples =
-    coordinate "500" (Thousandths (pos 500000)) ∷
-    coordinate "-500.000" (Thousandths (neg_ℤ (pos 500000))) ∷
-    coordinate "500.001" (Wrong fault.Range) ∷
-    coordinate "1250" (Wrong fault.Range) ∷
-    coordinate "1,250" (Wrong fault.Comma) ∷
-    coordinate ".5" (Wrong fault.Number) ∷
-    coordinate "5." (Wrong fault.Number) ∷
-    coordinate "1.2500" (Wrong fault.Number) ∷
-    coordinate "-0" (Thousandths (pos 0)) ∷
-    coordinate "-0.0" (Thousandths (pos 0)) ∷
-    coordinate "01" (Wrong fault.Number) ∷
-    coordinate "1000000" (Wrong fault.Number) ∷
+    coordinate "500" (Ok (pos 500000)) ∷
+    coordinate "-500.000" (Ok (neg_ℤ (pos 500000))) ∷
+    coordinate "500.001" (Err fault.Range) ∷
+    coordinate "1250" (Err fault.Range) ∷
+    coordinate "1,250" (Err fault.Comma) ∷
+    coordinate ".5" (Err fault.Number) ∷
+    coordinate "5." (Err fault.Number) ∷
+    coordinate "1.2500" (Err fault.Number) ∷
+    coordinate "-0" (Ok (pos 0)) ∷
+    coordinate "-0.0" (Ok (pos 0)) ∷
+    coordinate "01" (Err fault.Number) ∷
+    coordinate "1000000" (Err fault.Number) ∷
     []
 
 -- ---- a file

@@ -1,10 +1,9 @@
 -- Fields that pass, in the words that reading and writing share: what is written reads back because its fields are such.
-use Rattle.std.specs.Prelude.{ℕ, ◌≤◌, ◌<◌, ◌≡◌, List, [], ◌∷◌, length}
+use Rattle.std.specs.Prelude.{ℕ, ◌≤◌, ◌<◌, ◌≡◌, List, [], ◌∷◌, length, Ok}
 use Rattle.limits.specs.Limits.{space, minus}
 use Rattle.laws.specs.Words.{gather}
 use Rattle.format.specs.Line.{field_verdict}
 use Rattle.format.specs.declared.Role.{Role}
-use Rattle.format.specs.declared.Judged.TheVariants.{Passed}
 use Rattle.format.specs.declared.ReaderState.{ReaderState}
 
 -- no byte of l is below b
@@ -16,7 +15,7 @@ Above b (x ∷ l) = (b ≤ x) × Above b l
 pub record Good (state : ReaderState) (role : Role) (f : List ℕ) : Type 0 where
   pub some : 0 < length f
   pub plain : Above minus f
-  pub passes : field_verdict state role f ≡ Passed
+  pub passes : field_verdict state role f ≡ Ok tt
 
 -- what holds of each text
 abbrev pub Each : (List ℕ → Type 0) → List (List ℕ) → Type 0

@@ -2,7 +2,7 @@
 --   state   what the lines before it told: how many vertices and elements, and whether EN was among them
 --   rooms   how many numbers the two lent tables hold
 --   role    what a line is by its mark: a vertex, an element, the end, or nothing known
-use Rattle.std.specs.Prelude.{ℕ, zero, suc, ◌+◌, ◌*◌, Bool, true, false, cond, not, ◌&&◌, List, [], ◌∷◌, get_or, drop, eqb, leb, ltb}
+use Rattle.std.specs.Prelude.{ℕ, zero, suc, ◌+◌, ◌*◌, Bool, true, false, cond, not, ◌&&◌, List, [], ◌∷◌, get_or, drop, eqb, leb, ltb, Option, Some, None, Result, Ok, Err, ℤ}
 use Rattle.limits.specs.Limits.{space, mark_width, fields_at, vertex_limit, element_limit, vertex_width, element_width, corner_width}
 use Rattle.laws.specs.Pieces.{Pieces, rest, piece, split}
 use Rattle.faults.specs.declared.Fault.{Fault}
@@ -12,16 +12,8 @@ use Rattle.format.specs.declared.Mark.{Mark}
 use Rattle.format.specs.declared.Mark.TheVariants.{Vx, Te, Py, Pz, Pr, Hx, En, Unknown}
 use Rattle.format.specs.declared.Role.{Role}
 use Rattle.format.specs.declared.Role.TheVariants.{VertexLine, ElementLine, EndLine, UnknownLine}
-use Rattle.format.specs.declared.Spelt.{Spelt}
-use Rattle.format.specs.declared.Spelt.TheVariants.{Of, Not}
-use Rattle.format.specs.declared.Coordinate.{Coordinate}
-use Rattle.format.specs.declared.Coordinate.TheVariants.{Thousandths, Wrong}
-use Rattle.format.specs.declared.Judged.{Judged}
-use Rattle.format.specs.declared.Judged.TheVariants.{Passed, Failed}
 use Rattle.format.specs.declared.ReaderState.{ReaderState}
 use Rattle.format.specs.declared.Rooms.{Rooms}
-use Rattle.format.specs.declared.Line.{Line}
-use Rattle.format.specs.declared.Line.TheVariants.{Next, No}
 
 -- ---- the mark
 
@@ -109,34 +101,34 @@ numbers_of p = first_of value_of corner_width p
 -- ---- a field: COMMA, NUMBER, then RANGE or VERTEX
 
 -- a coordinate
-abbrev pub judge_coordinate : Coordinate → Judged
-judge_coordinate (Thousandths z) = Passed
-judge_coordinate (Wrong f) = Failed f
+abbrev pub judge_coordinate : Result ℤ Fault → Result (Unit {0}) Fault
+judge_coordinate (Ok z) = Ok tt
+judge_coordinate (Err f) = Err f
 
 -- a count
-abbrev pub judge_count : Spelt → Judged
-judge_count (Of n) = Passed
-judge_count Not = Failed fault.Number
+abbrev pub judge_count : Option ℕ → Result (Unit {0}) Fault
+judge_count (Some n) = Ok tt
+judge_count None = Err fault.Number
 
 -- a vertex number: not 0, and not above the vertex count
-abbrev pub judge_vertex : ℕ → Spelt → Judged
-judge_vertex count (Of n) = cond (eqb n 0) (Failed fault.Vertex) (cond (ltb count n) (Failed fault.Vertex) Passed)
-judge_vertex count Not = Failed fault.Number
+abbrev pub judge_vertex : ℕ → Option ℕ → Result (Unit {0}) Fault
+judge_vertex count (Some n) = cond (eqb n 0) (Err fault.Vertex) (cond (ltb count n) (Err fault.Vertex) (Ok tt))
+judge_vertex count None = Err fault.Number
 
 -- a field of a line, by the line's role
-unfoldable pub field_verdict : ReaderState → Role → List ℕ → Judged
+unfoldable pub field_verdict : ReaderState → Role → List ℕ → Result (Unit {0}) Fault
 field_verdict state VertexLine l = judge_coordinate (coordinate_of l)
 field_verdict state ElementLine l = judge_vertex state.vertices (number_of l)
 field_verdict state EndLine l = judge_count (number_of l)
-field_verdict state UnknownLine l = Passed
+field_verdict state UnknownLine l = Ok tt
 
 -- the first fault of two
-abbrev pub first : Judged → Judged → Judged
-first Passed j = j
-first (Failed f) j = Failed f
+abbrev pub first : Result (Unit {0}) Fault → Result (Unit {0}) Fault → Result (Unit {0}) Fault
+first (Ok tt) j = j
+first (Err f) j = Err f
 
 -- fields left to right
-unfoldable pub fields_verdict : ReaderState → Role → Pieces → Judged
+unfoldable pub fields_verdict : ReaderState → Role → Pieces → Result (Unit {0}) Fault
 fields_verdict state role (rest l) = field_verdict state role l
 fields_verdict state role (piece l p) = first (field_verdict state role l) (fields_verdict state role p)
 
@@ -189,17 +181,17 @@ unfoldable pub after : ReaderState → List ℕ → ReaderState
 after state l = after_role state (role_of (mark_of l))
 
 -- refused where the test holds; else what comes next
-abbrev pub given : Bool → Fault → Line → Line
-given test f next = cond test (No f) next
+abbrev pub given : Bool → Fault → Result ReaderState Fault → Result ReaderState Fault
+given test f next = cond test (Err f) next
 
 -- refused where the fields are; else what comes next
-abbrev pub judged : Judged → Line → Line
-judged Passed next = next
-judged (Failed f) next = No f
+abbrev pub judged : Result (Unit {0}) Fault → Result ReaderState Fault → Result ReaderState Fault
+judged (Ok tt) next = next
+judged (Err f) next = Err f
 
 -- in a line: anything after EN; missing byte 10 (closed: it stands at the line's end); mark; MANY; field count and spacing;
 -- fields left to right; ROOM; the EN counts last, by END alone
-unfoldable pub line_verdict : Rooms → ReaderState → Bool → List ℕ → Line
+unfoldable pub line_verdict : Rooms → ReaderState → Bool → List ℕ → Result ReaderState Fault
 line_verdict rooms state closed l =
     given state.ended fault.Mark
     (given (not closed) fault.Shape
@@ -209,4 +201,4 @@ line_verdict rooms state closed l =
     (judged (fields_verdict state (role_of (mark_of l)) (fields_of l))
     (given (no_room rooms state (role_of (mark_of l))) fault.Room
     (given (bad_counts state (role_of (mark_of l)) (fields_of l)) fault.End
-    (Next (after state l)))))))))
+    (Ok (after state l)))))))))

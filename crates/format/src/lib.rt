@@ -2,10 +2,8 @@
 // The definitions stand in specs/, what is proved of them in proofs/Theorems.antt; reading is the room text, writing the room writing.
 #![tactic(auto)]
 
-use faults::Fault;
-
 // The mark of a line, by the page's name; `Unknown` is any other, and that of a line too short for one.
-#[derive(Clone, Copy)]
+#[derive(Clone, Copy, Debug, PartialEq, Eq)]
 pub enum Mark {
     Vx,
     Te,
@@ -18,7 +16,7 @@ pub enum Mark {
 }
 
 // What a line is, by its mark.
-#[derive(Clone, Copy)]
+#[derive(Clone, Copy, Debug, PartialEq, Eq)]
 pub enum Role {
     VertexLine,
     ElementLine,
@@ -26,29 +24,8 @@ pub enum Role {
     UnknownLine,
 }
 
-// A run of digits: the number that it spells, or that it is not of the stated form.
-#[derive(Clone, Copy)]
-pub enum Spelt {
-    Of(u32),
-    Not,
-}
-
-// A coordinate field: thousandths of a millimetre, or what is wrong with it.
-#[derive(Clone, Copy)]
-pub enum Coordinate {
-    Thousandths(i32),
-    Wrong(Fault),
-}
-
-// What a field comes to, or several: nothing wrong, or the first fault.
-#[derive(Clone, Copy)]
-pub enum Judged {
-    Passed,
-    Failed(Fault),
-}
-
 // What the lines so far tell about the next one: how many vertices and elements they gave, and whether EN was among them.
-#[derive(Clone, Copy)]
+#[derive(Clone, Copy, Debug, PartialEq, Eq)]
 pub struct ReaderState {
     pub vertices: usize,
     pub elements: usize,
@@ -56,15 +33,8 @@ pub struct ReaderState {
 }
 
 // How many numbers the two lent tables hold.
-#[derive(Clone, Copy)]
+#[derive(Clone, Copy, Debug, PartialEq, Eq)]
 pub struct Rooms {
     pub vertices: usize,
     pub elements: usize,
-}
-
-// What a line comes to: the state after it, or its fault.
-#[derive(Clone, Copy)]
-pub enum Line {
-    Next(ReaderState),
-    No(Fault),
 }

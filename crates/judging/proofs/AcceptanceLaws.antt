@@ -13,7 +13,7 @@ use Rattle.laws.specs.Words.{every}
 use Rattle.laws.proofs.TestLaws.{and_left, and_right, and_both, T_true}
 use Rattle.laws.proofs.EveryLaws.{every_front, every_rest}
 use Rattle.laws.proofs.SearchLaws.{least-none}
-use Rattle.faults.specs.declared.Finding.TheVariants.{Clean}
+use Rattle.std.specs.Prelude.{Ok}
 use Rattle.faults.specs.Refusals.{accepted}
 use Rattle.solids.specs.Solids.{Element}
 use Rattle.solids.specs.Fit.{proper, fits, fitting}
@@ -79,7 +79,7 @@ accepted_acceptable v n t es e = record {
 }
 
 -- records without a fault hold proper elements
-pub clean-proper : (v n : ℕ) (t : List ℕ) → n ≤ element_limit → element_width * n ≤ length t → ((k : ℕ) → k < n → record_finding v (record_at t k) ≡ Clean)
+pub clean-proper : (v n : ℕ) (t : List ℕ) → n ≤ element_limit → element_width * n ≤ length t → ((k : ℕ) → k < n → record_finding v (record_at t k) ≡ Ok tt)
     → T (every proper (first_elements t n))
 clean-proper v n t few long clean =
     first-proper t n (record { few = few; long = long; whole = λ k h. clean-whole v (record_at t k) (clean k h) })

@@ -11,7 +11,7 @@ use borrow.Author.Tests.{ltb-false}
 use Rattle.limits.specs.Limits.{element_limit, vertex_limit, element_width}
 use Rattle.laws.specs.Words.{every}
 use Rattle.faults.specs.declared.Fault.TheVariants.{Join}
-use Rattle.faults.specs.declared.Finding.TheVariants.{Clean}
+use Rattle.std.specs.Prelude.{Ok}
 use Rattle.faults.specs.declared.Refusal.{Refusal}
 use Rattle.faults.specs.Refusals.{Verdict, accepted, refused, refuse_pair}
 use Rattle.faults.proofs.RefusalLaws.{Passed, passed, not-accepted}
@@ -68,7 +68,7 @@ module _ (v n : ℕ) (t : List ℕ) where
     pub accepted-long : element_width * n ≤ length t
     accepted-long = accepted_recorded.table.long
 
-    pub accepted-clean : (k : ℕ) → k < n → record_finding v (record_at t k) ≡ Clean
+    pub accepted-clean : (k : ℕ) → k < n → record_finding v (record_at t k) ≡ Ok tt
     accepted-clean = record_clean v t n no_bad_record
 
     pub accepted-elements : es ≡ first_elements t n

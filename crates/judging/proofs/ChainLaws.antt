@@ -4,7 +4,6 @@ use mathlib.Core.Path.{◌≡◌, refl, sym, ap, ap₂, ◌∙◌, subst}
 use mathlib.Core.Bool.{Bool, true, false, cond, not, ◌||◌}
 use mathlib.Core.List.{List, [], ◌∷◌, ◌++◌}
 use Prim.Native.Nat.{ℕ, zero, suc, ◌+◌, ◌*◌, ◌/◌, ◌%◌, ◌≤◌, ◌<◌, zero-le}
-use native.Mathlib.Nat.{le_refl, le_trans}
 use native.Mathlib.Numerals.{add-one}
 use native.Mathlib.Omega.{arith}
 use lib.Dec.{T, eqb, ltb, leb}
@@ -26,7 +25,10 @@ use Rattle.tables.specs.JudgedRecords.{bad_record}
 use Rattle.judging.specs.Judge.{pair_fits, misfit}
 use Rattle.tables.proofs.CleanRecordLaws.{record_clean}
 use Rattle.judging.specs.Judgement.{Recorded}
-use Rattle.judging.specs.ChainLoops.{Numbered, holds, latest, Filed, Seen, Grown, Meeting, Met}
+use Rattle.judging.specs.declared.chains.Mark.{Mark}
+use Rattle.judging.specs.declared.chains.Mark.TheVariants.{Unmet, MetOnce, Fits}
+use Rattle.judging.specs.Chained.{Numbered, holds, latest, Filed}
+use Rattle.judging.specs.Marks.{is_met, met, Seen, Grown, Meeting, Met}
 
 -- ---- the greatest number below a bound
 
@@ -158,17 +160,17 @@ recorded_numbered v n t h = clean-numbered v h.few t n h.table h.clean
 
 -- ---- filing places
 
-zeros : (n i : ℕ) → ◌≡◌ {A = ℕ} (get_or (replicate n 0) i 0) 0
-zeros zero i = refl
-zeros (suc n) zero = refl
-zeros (suc n) (suc i) = zeros n i
+still : {A : Type 0} (d : A) (n i : ℕ) → get_or (replicate n d) i d ≡ d
+still d zero i = refl
+still d (suc n) zero = refl
+still d (suc n) (suc i) = still d n i
 
 pub filed-start : (t : List ℕ) → Filed t (element_width * 0) (replicate 4097 0) (replicate 9216 0)
 unfolding latest
 filed-start t = record {
   wide = length-replicate {A = ℕ} 4097 0;
   long = length-replicate {A = ℕ} 9216 0;
-  first = λ v h. zeros 4097 v;
+  first = λ v h. still 0 4097 v;
   next = λ x h l. absurd (omega arith);
 }
 
@@ -222,48 +224,53 @@ module _ (t : List ℕ) (x : ℕ) {heads links : List ℕ} (w : Filed t x heads 
 
 -- ---- marks
 
-pub seen_start : (t : List ℕ) (j : ℕ) → Seen t j (replicate 1024 0)
-seen_start t j = record { wide = length-replicate {A = ℕ} 1024 0; fit = λ i h. absurd (let e = zeros 1024 i in omega arith) }
+pub seen_start : (t : List ℕ) (j : ℕ) → Seen t j (replicate 1024 Unmet)
+seen_start t j = record { wide = length-replicate {A = Mark} 1024 Unmet; fit = λ i h. let e = still Unmet 1024 i in cc }
 
 -- element i is met at one more vertex
-module _ (t : List ℕ) (i j : ℕ) (marks : List ℕ) (m : Meeting t i j marks) where
+module _ (t : List ℕ) (i j : ℕ) (marks : List Mark) (m : Meeting t i j marks) where
   inside : i < length marks
   inside = rw m.seen.wide (omega (arith, m.early, m.table.few))
 
-  grown-set : (k : ℕ) → get_or marks i 0 ≤ k → Grown marks (set marks i k)
-  grown-set k h n = go (eqb n i) refl
-    where
-      go : (b : Bool) → eqb n i ≡ b → get_or marks n 0 ≤ get_or (set marks i k) n 0
-      go true q = let e = eqb-true n i q in rw (e, get_or-set_same marks i k 0 inside) h
-      go false q = rw (get_or-set_other marks i n k 0 (eqb-false n i q)) (omega arith)
+  -- the mark of element i becomes one of those that are met
+  module _ (k : Mark) (h : is_met k ≡ true) where
+    pub met-set : met (set marks i k) i ≡ true
+    met-set = rw (get_or-set_same marks i k Unmet inside) h
 
-  -- a mark of 2 or more is an old one, or that of i
-  seen-set : (k : ℕ) → (1 < k → pair_fits t i j ≡ true) → Seen t j (set marks i k)
-  seen-set k f = record { wide = length-set marks i k ∙ m.seen.wide; fit = λ n h. go n h (eqb n i) refl }
-    where
-      go : (n : ℕ) → 1 < get_or (set marks i k) n 0 → (b : Bool) → eqb n i ≡ b → pair_fits t n j ≡ true
-      go n h true q =
-          let e = eqb-true n i q in
-          let l = subst (λ (x : ℕ). 1 < get_or (set marks i k) x 0) e h in
-          rw e (f (rw (get_or-set_same marks i k 0 inside) at l))
-      go n h false q = m.seen.fit n (rw (get_or-set_other marks i n k 0 (eqb-false n i q)) at h)
+    grown-set : Grown marks (set marks i k)
+    grown-set n l = go (eqb n i) refl
+      where
+        go : (b : Bool) → eqb n i ≡ b → met (set marks i k) n ≡ true
+        go true q = rw (eqb-true n i q) met-set
+        go false q = rw (get_or-set_other marks i n k Unmet (eqb-false n i q)) l
+
+    -- a mark of those that fit is an old one, or that of i
+    seen-set : (k ≡ Fits → pair_fits t i j ≡ true) → Seen t j (set marks i k)
+    seen-set f = record { wide = length-set marks i k ∙ m.seen.wide; fit = λ n l. go n l (eqb n i) refl }
+      where
+        go : (n : ℕ) → get_or (set marks i k) n Unmet ≡ Fits → (b : Bool) → eqb n i ≡ b → pair_fits t n j ≡ true
+        go n l true q =
+            let e = eqb-true n i q in
+            let a = subst (λ (x : ℕ). get_or (set marks i k) x Unmet ≡ Fits) e l in
+            rw e (f (sym (get_or-set_same marks i k Unmet inside) ∙ a))
+        go n l false q = m.seen.fit n (sym (get_or-set_other marks i n k Unmet (eqb-false n i q)) ∙ l)
 
   -- for the first time
-  pub met_first : get_or marks i 0 ≡ 0 → Met t i j marks (set marks i 1) true
+  pub met_first : get_or marks i Unmet ≡ Unmet → Met t i j marks (set marks i MetOnce) true
   met_first e = record {
-    seen = seen-set 1 (λ h. absurd (omega arith));
-    grown = grown-set 1 (omega arith);
-    marked = λ z. rw (get_or-set_same marks i 1 0 inside) (omega arith);
-    again = λ z h. absurd (omega arith);
+    seen = seen-set MetOnce refl (λ h. cc);
+    grown = grown-set MetOnce refl;
+    marked = λ z. met-set MetOnce refl;
+    again = λ z h. absurd (subst T (sym h ∙ ap is_met e) tt);
     bad = λ z. absurd (subst T z tt);
   }
 
   -- when it is known to fit
-  pub met_known : 1 < get_or marks i 0 → Met t i j marks marks true
+  pub met_known : get_or marks i Unmet ≡ Fits → Met t i j marks marks true
   met_known h = record {
     seen = m.seen;
-    grown = λ k. le_refl (get_or marks k 0);
-    marked = λ z. omega arith;
+    grown = λ k l. l;
+    marked = λ z. ap is_met h;
     again = λ z l. m.seen.fit i h;
     bad = λ z. absurd (subst T z tt);
   }
@@ -272,18 +279,18 @@ module _ (t : List ℕ) (i j : ℕ) (marks : List ℕ) (m : Meeting t i j marks)
   pub met_bad : pair_fits t i j ≡ false → Met t i j marks marks false
   met_bad e = record {
     seen = m.seen;
-    grown = λ k. le_refl (get_or marks k 0);
+    grown = λ k l. l;
     marked = λ z. absurd (subst T (sym z) tt);
     again = λ z. absurd (subst T (sym z) tt);
     bad = λ z. e;
   }
 
   -- it fits
-  pub met_fit : get_or marks i 0 ≤ 1 → pair_fits t i j ≡ true → Met t i j marks (set marks i 2) true
-  met_fit h e = record {
-    seen = seen-set 2 (λ l. e);
-    grown = grown-set 2 (omega arith);
-    marked = λ z. rw (get_or-set_same marks i 2 0 inside) (omega arith);
+  pub met_fit : pair_fits t i j ≡ true → Met t i j marks (set marks i Fits) true
+  met_fit e = record {
+    seen = seen-set Fits refl (λ l. e);
+    grown = grown-set Fits refl;
+    marked = λ z. met-set Fits refl;
     again = λ z l. e;
     bad = λ z. absurd (subst T z tt);
   }
@@ -291,24 +298,24 @@ module _ (t : List ℕ) (i j : ℕ) (marks : List ℕ) (m : Meeting t i j marks)
 -- ---- walking a chain
 
 -- the places of v above x, which is one of them or 0, are those of elements that are marked, and fit where they were marked before
-pub record On (t : List ℕ) (j v : ℕ) (old new : List ℕ) (x : ℕ) : Type 0 where
+pub record On (t : List ℕ) (j v : ℕ) (old new : List Mark) (x : ℕ) : Type 0 where
   pub less : 0 < x → x < element_width * j
   pub here : 0 < x → holds t v x ≡ true
   pub grown : Grown old new
-  pub marked : (y : ℕ) → x < y → y < element_width * j → holds t v y ≡ true → 0 < get_or new (y / element_width) 0
-  pub again : (y : ℕ) → x < y → y < element_width * j → holds t v y ≡ true → 0 < get_or old (y / element_width) 0 → pair_fits t (y / element_width) j ≡ true
+  pub marked : (y : ℕ) → x < y → y < element_width * j → holds t v y ≡ true → met new (y / element_width) ≡ true
+  pub again : (y : ℕ) → x < y → y < element_width * j → holds t v y ≡ true → met old (y / element_width) ≡ true → pair_fits t (y / element_width) j ≡ true
 
-module _ (t : List ℕ) (j v : ℕ) (old : List ℕ) where
+module _ (t : List ℕ) (j v : ℕ) (old : List Mark) where
   pub on_start : (x : ℕ) → x ≡ latest (holds t v) (element_width * j) → On t j v old old x
   on_start x e = rw e (record {
     less = λ h. latest_less (holds t v) (element_width * j) (let l = latest-high (holds t v) (element_width * j) in omega arith);
     here = latest-passes (holds t v) (element_width * j);
-    grown = λ k. le_refl (get_or old k 0);
+    grown = λ k l. l;
     marked = λ y h l p. absurd (let k = latest_above (holds t v) (element_width * j) y l p in omega arith);
     again = λ y h l p. absurd (let k = latest_above (holds t v) (element_width * j) y l p in omega arith);
   })
 
-  module _ (x y : ℕ) {marks new : List ℕ} (w : On t j v old marks x) (h : 0 < x) {r : Bool} (m : Met t (x / element_width) j marks new r) (q : r ≡ true)
+  module _ (x y : ℕ) {marks new : List Mark} (w : On t j v old marks x) (h : 0 < x) {r : Bool} (m : Met t (x / element_width) j marks new r) (q : r ≡ true)
       (e : y ≡ latest (holds t v) x)
     where
       -- a place above the next one is x, or above x
@@ -325,9 +332,9 @@ module _ (t : List ℕ) (j v : ℕ) (old : List ℕ) where
       on_next = rw e (record {
         less = λ l. (let a = latest_less (holds t v) x h in let b = w.less h in omega arith);
         here = latest-passes (holds t v) x;
-        grown = λ k. le_trans (w.grown k) (m.grown k);
-        marked = above {P = λ z. 0 < get_or new (z / element_width) 0} (m.marked q) (λ z l n p. le_trans (w.marked z l n p) (m.grown (z / element_width)));
-        again = above {P = λ z. 0 < get_or old (z / element_width) 0 → pair_fits t (z / element_width) j ≡ true} (λ o. m.again q (le_trans o (w.grown (x / element_width)))) w.again;
+        grown = λ k l. m.grown k (w.grown k l);
+        marked = above {P = λ z. met new (z / element_width) ≡ true} (m.marked q) (λ z l n p. m.grown (z / element_width) (w.marked z l n p));
+        again = above {P = λ z. met old (z / element_width) ≡ true → pair_fits t (z / element_width) j ≡ true} (λ o. m.again q (w.grown (x / element_width) o)) w.again;
       })
 
 -- ---- one misfit, or none
@@ -398,6 +405,17 @@ used_place t i a h l =
     ∙ get_or-drop (element_width * i) t (1 + a) 0
     ∙ ap (λ (n : ℕ). get_or t (element_width * i + n) 0) (omega arith)
 
+-- a corner of element j
+abbrev pub corner_of : List ℕ → ℕ → ℕ → ℕ
+corner_of t j a = get_or (used_of (record_at t j)) a 0
+
+-- its number is low
+pub corner-low : (t : List ℕ) (j a : ℕ) → Numbered t (j + 1) → a < length (used_of (record_at t j)) → corner_of t j a ≤ vertex_limit
+corner-low t j a n h =
+    let l = used_length (record_at t j) (n.table.whole j (omega arith)) in
+    let k = kind-small (kind_of (record_at t j)) (n.table.whole j (omega arith)).kind in
+    rw (used_place t j a (omega arith) (omega arith)) (n.low (element_width * j + (a + 1)) (omega arith) (omega arith))
+
 -- two elements that do not fit have two vertices in common
 module _ (t : List ℕ) (i j : ℕ) (e : pair_fits t i j ≡ false) where
   many-common : 1 < length (common (element_at t i) (element_at t j))
@@ -410,8 +428,8 @@ module _ (t : List ℕ) (i j : ℕ) (e : pair_fits t i j ≡ false) where
 
 -- where element j fits each element that holds two of its vertices, it fits each element before it
 module _ (t : List ℕ) (j : ℕ) (w : WholeTable t (j + 1))
-    (all : (q r : ℕ) → 0 < q → q < r → r ≤ kind_of (record_at t j) → (x y : ℕ) → x < element_width * j → y < element_width * j → x / element_width ≡ y / element_width
-    → holds t (get_or t (element_width * j + q) 0) x ≡ true → holds t (get_or t (element_width * j + r) 0) y ≡ true → pair_fits t (y / element_width) j ≡ true)
+    (all : (b d : ℕ) → b < d → d < length (used_of (record_at t j)) → (x y : ℕ) → x < element_width * j → y < element_width * j → x / element_width ≡ y / element_width
+    → holds t (corner_of t j b) x ≡ true → holds t (corner_of t j d) y ≡ true → pair_fits t (y / element_width) j ≡ true)
   where
     -- a corner of element i that stands at a corner of element j
     record Common (i a b : ℕ) : Type 0 where
@@ -421,26 +439,20 @@ module _ (t : List ℕ) (j : ℕ) (w : WholeTable t (j + 1))
 
     -- its place in the table
     record Found (i a b : ℕ) : Type 0 where
-      low : b < kind_of (record_at t j)
       early : element_width * i + (a + 1) < element_width * j
       whose : (element_width * i + (a + 1)) / element_width ≡ i
-      stands : holds t (get_or t (element_width * j + (b + 1)) 0) (element_width * i + (a + 1)) ≡ true
+      stands : holds t (corner_of t j b) (element_width * i + (a + 1)) ≡ true
 
     found : (i a b : ℕ) → i < j → Common i a b → Found i a b
     found i a b h m =
         let l : a < length (used_of (record_at t i)) = m.mine in
-        let n : b < length (used_of (record_at t j)) = m.theirs in
         let p = used_length (record_at t i) (w.whole i (omega arith)) in
-        let q = used_length (record_at t j) (w.whole j (omega arith)) in
         let k = kind-small (kind_of (record_at t i)) (w.whole i (omega arith)).kind in
-        let f = kind-small (kind_of (record_at t j)) (w.whole j (omega arith)).kind in
         let here = used_place t i a (omega arith) (omega arith) in
-        let there = used_place t j b (omega arith) (omega arith) in
         record {
-          low = omega arith;
           early = omega arith;
           whose = omega arith;
-          stands = place-holds t (get_or t (element_width * j + (b + 1)) 0) (element_width * i + (a + 1)) (omega arith) (sym here ∙ m.same ∙ there);
+          stands = place-holds t (corner_of t j b) (element_width * i + (a + 1)) (omega arith) (sym here ∙ m.same);
         }
 
     -- two corners of element i that stand at corners of element j, the first at the lower place
@@ -448,12 +460,11 @@ module _ (t : List ℕ) (j : ℕ) (w : WholeTable t (j + 1))
     ordered i a b c d h m n l =
         let f = found i a b h m in
         let g = found i c d h n in
-        let z = g.low in
         rw g.whose at
-        (all (b + 1) (d + 1) (omega arith) (omega arith) (omega arith) (element_width * i + (a + 1)) (element_width * i + (c + 1)) f.early g.early (f.whose ∙ sym g.whose) f.stands g.stands)
+        (all b d l n.theirs (element_width * i + (a + 1)) (element_width * i + (c + 1)) f.early g.early (f.whose ∙ sym g.whose) f.stands g.stands)
 
-    met : (i a b c d : ℕ) → i < j → a < c → Common i a b → Common i c d → pair_fits t i j ≡ true
-    met i a b c d h l m n = go (ltb b d) (ltb d b) refl refl
+    either : (i a b c d : ℕ) → i < j → a < c → Common i a b → Common i c d → pair_fits t i j ≡ true
+    either i a b c d h l m n = go (ltb b d) (ltb d b) refl refl
       where
         go : (e f : Bool) → ltb b d ≡ e → ltb d b ≡ f → pair_fits t i j ≡ true
         go true f p q = ordered i a b c d h m n (ltb-true b d p)
@@ -477,7 +488,7 @@ module _ (t : List ℕ) (j : ℕ) (w : WholeTable t (j + 1))
             let c = r.4 in
             let b = among_index (get_or (used_of (record_at t i)) r.0 0) (used_of (record_at t j)) a.1 in
             let d = among_index (get_or (used_of (record_at t i)) r.1 0) (used_of (record_at t j)) c.1 in
-            met i r.0 b.0 r.1 d.0 h r.2
+            either i r.0 b.0 r.1 d.0 h r.2
             (record { mine = a.0; theirs = b.1; same = b.2 }) (record { mine = c.0; theirs = d.1; same = d.2 })
 
     pub misfit-none : misfit t j ≡ 0

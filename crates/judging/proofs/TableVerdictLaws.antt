@@ -3,33 +3,24 @@
 use mathlib.Core.Path.{◌≡◌, refl, sym, ap, ◌∙◌, subst}
 use mathlib.Core.Bool.{Bool, true, false}
 use mathlib.Core.List.{List}
-use Prim.Native.Nat.{ℕ, ◌*◌, ◌-◌, pred, ◌≤◌, ◌<◌}
-use native.Mathlib.Numerals.{sub-one}
+use Rattle.std.specs.Prelude.{Result}
+use Prim.Native.Nat.{ℕ, ◌+◌, ◌*◌, pred}
+use native.Mathlib.Numerals.{add-one}
 use native.Mathlib.Omega.{arith}
 use lib.Dec.{ltb}
 use lib.ListN.{length}
 use borrow.Author.Tests.{lt-ltb}
 use Rattle.limits.specs.Limits.{element_limit, vertex_limit, element_width}
-use Rattle.faults.specs.declared.Fault.TheVariants.{Many, Room, Join}
+use Rattle.faults.specs.declared.Fault.TheVariants.{Many, Room}
 use Rattle.faults.specs.declared.Refusal.{Refusal}
-use Rattle.faults.specs.Refusals.{Verdict, accepted, refused, refuse, refuse_pair, refuse_if}
+use Rattle.faults.specs.Refusals.{Verdict, accepted, refused, refuse, refuse_pair, refuse_if, ruled}
 use Rattle.faults.proofs.RefusalLaws.{then_if}
 use Rattle.solids.specs.Solids.{Element}
 use Rattle.records.specs.Record.{record_finding, record_at, first_elements}
 use Rattle.tables.specs.JudgedRecords.{fault_in, bad_record, records_judged}
 use Rattle.tables.proofs.Theorems.{passed_faultless, passed_elements}
-use Rattle.judging.specs.declared.JudgeAnswer.{JudgeAnswer}
 use Rattle.judging.specs.Judge.{bad_element, misfit, pairs_judged, judged}
 use Rattle.judging.specs.Judgement.{Recorded, Judging}
-use Rattle.judging.specs.PairLoops.{answer_from}
-
--- a refusal made of what the code found
-pub pair_refused : (t : List ℕ) (j i : ℕ) → i ≡ misfit t (j - 1) → ◌≡◌ {A = Refusal} (record { fault = Join; place = j; second = i }) (refuse_pair j (misfit t (pred j)))
-pair_refused t j i p = ap (refuse_pair j) (p ∙ ap (misfit t) (sub-one j))
-
--- a search that found nothing
-pub none : (k : ℕ) {m : ℕ} → k ≡ m → k ≤ 0 → m ≡ 0
-none k e h = omega arith
 
 -- ---- the records
 
@@ -68,9 +59,9 @@ module _ (v n : ℕ) (t : List ℕ) where
 -- ---- the pairs
 
 module _ (t : List ℕ) (n : ℕ) (es : List Element) where
-  pub bad_pair : (j : ℕ) → j ≡ bad_element t n → 0 < j → pairs_judged t n es ≡ refused (refuse_pair j (misfit t (pred j)))
+  pub bad_pair : (j i : ℕ) → bad_element t n ≡ j + 1 → misfit t j ≡ i + 1 → pairs_judged t n es ≡ refused (refuse_pair (j + 1) (i + 1))
   unfolding pairs_judged
-  bad_pair j e h = rw (← e, lt-ltb 0 j h)
+  bad_pair j i e f = rw (e, lt-ltb 0 (j + 1) (omega arith), add-one j, f)
 
   pub all_fit : bad_element t n ≡ 0 → pairs_judged t n es ≡ accepted es
   unfolding pairs_judged
@@ -82,14 +73,14 @@ module _ (t : List ℕ) (n : ℕ) (es : List Element) where
   pairs_accepted xs = go (ltb 0 (bad_element t n))
     where
       go : (b : Bool) → refuse_if b (refuse_pair (bad_element t n) (misfit t (pred (bad_element t n)))) (accepted es) ≡ accepted xs → xs ≡ es
-      go true e = absurd (let z : ◌≡◌ {A = ℕ} 0 1 = cc in omega arith)
+      go true e = cc
       go false e = cc
 
 -- records, then pairs: the whole judgement
-pub pairs_judging : (v n : ℕ) (t : List ℕ) → Recorded v n t → (r : JudgeAnswer) → r ≡ answer_from (pairs_judged t n (first_elements t n)) → Judging v n t r
+pub pairs_judging : (v n : ℕ) (t : List ℕ) → Recorded v n t → (r : Result (Unit {0}) Refusal) → r ≡ ruled (pairs_judged t n (first_elements t n)) → Judging v n t r
 pairs_judging v n t h r e = go (pairs_judged t n (first_elements t n)) refl e
   where
-    go : (x : Verdict (List Element)) → pairs_judged t n (first_elements t n) ≡ x → r ≡ answer_from x → Judging v n t r
+    go : (x : Verdict (List Element)) → pairs_judged t n (first_elements t n) ≡ x → r ≡ ruled x → Judging v n t r
     go (accepted es) p q =
         subst (Judging v n t) (sym q)
         (record { verdict = h.verdict ∙ p ∙ ap accepted (pairs_accepted t n (first_elements t n) es p); few = h.few; table = h.table; clean = h.clean })

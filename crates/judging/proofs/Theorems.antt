@@ -1,9 +1,9 @@
 -- What is promised of judging a table, in the words of specs/ alone. A reader starts here.
 -- Assumes nothing.
-use mathlib.Core.Path.{◌≡◌, refl, sym, ap, ◌∙◌}
+use mathlib.Core.Path.{◌≡◌, refl, sym, ◌∙◌}
 use mathlib.Core.List.{List, []}
+use Rattle.std.specs.Prelude.{Result, Ok, Err}
 use Prim.Native.Nat.{ℕ, ◌≤◌}
-use native.Mathlib.Omega.{arith}
 use lib.Dec.{T}
 use lib.ListN.{length}
 use Rattle.laws.specs.Words.{every}
@@ -17,8 +17,6 @@ use Rattle.solids.specs.Fit.{proper, fitting}
 use Rattle.solids.specs.Surface.{SurfaceCut}
 use Rattle.solids.proofs.Theorems.{mesh_most, surface-cut}
 use Rattle.records.specs.Record.{first_elements}
-use Rattle.judging.specs.declared.JudgeAnswer.{JudgeAnswer}
-use Rattle.judging.specs.declared.JudgeAnswer.TheVariants as judge
 use Rattle.judging.specs.Judge.{judged, judge_verdict, JudgeDone}
 use Rattle.judging.specs.Judgement.{Recorded, Judging}
 use Rattle.judging.specs.Acceptance.{Acceptable}
@@ -28,19 +26,19 @@ use Rattle.judging.proofs.JudgeAnswerLaws as JudgeAnswerLaws
 
 -- ---- uniqueness: two answers that the contract allows are equal
 
-tells_judge : (r s : JudgeAnswer) → judge_verdict r ≡ judge_verdict s → r ≡ s
-tells_judge judge.Done judge.Done e = refl
-tells_judge judge.Done (judge.Refused y) e = let z : ◌≡◌ {A = ℕ} 0 1 = cc in absurd (omega arith)
-tells_judge (judge.Refused x) judge.Done e = let z : ◌≡◌ {A = ℕ} 0 1 = cc in absurd (omega arith)
-tells_judge (judge.Refused x) (judge.Refused y) e = let z : x ≡ y = cc in ap judge.Refused z
+tells_judge : (r s : Result (Unit {0}) Refusal) → judge_verdict r ≡ judge_verdict s → r ≡ s
+tells_judge (Ok u) (Ok v) e = refl
+tells_judge (Ok u) (Err y) e = cc
+tells_judge (Err x) (Ok v) e = cc
+tells_judge (Err x) (Err y) e = cc
 
-pub judge_unique : (v n : ℕ) (t : List ℕ) (r s : JudgeAnswer) → JudgeDone v n t r → JudgeDone v n t s → r ≡ s
+pub judge_unique : (v n : ℕ) (t : List ℕ) (r s : Result (Unit {0}) Refusal) → JudgeDone v n t r → JudgeDone v n t s → r ≡ s
 judge_unique v n t r s p q = tells_judge r s (answer_tells_verdict [] (judge_verdict r) (judge_verdict s) (p.answer ∙ sym q.answer))
 
 -- ---- what an answer tells of its table
 
 -- it is accepted, its records whole and without a fault; or the refusal is the page's
-pub judge_told : (v n : ℕ) (t : List ℕ) (r : JudgeAnswer) → JudgeDone v n t r → Judging v n t r
+pub judge_told : (v n : ℕ) (t : List ℕ) (r : Result (Unit {0}) Refusal) → JudgeDone v n t r → Judging v n t r
 judge_told = JudgeAnswerLaws.judge_told
 
 -- a table that is refused for a pair has whole records without a fault: JOIN is looked for last

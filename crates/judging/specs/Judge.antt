@@ -1,13 +1,12 @@
 -- Judging a table: its records, as tables/specs/JudgedRecords.antt has it, then JOIN: pairs by lowest j, then lowest i.
-use Rattle.std.specs.Prelude.{Bool, not, List, [], ◌≡◌, ℕ, pred, ltb}
+use Rattle.std.specs.Prelude.{Bool, not, List, [], ◌≡◌, ℕ, pred, ltb, Result, Ok, Err}
 use Rattle.laws.specs.Searches.{least}
+use Rattle.faults.specs.declared.Refusal.{Refusal}
 use Rattle.faults.specs.Refusals.{Verdict, accepted, refused, refuse_pair, refuse_if, and_then, answer_of}
 use Rattle.solids.specs.Solids.{Element}
 use Rattle.solids.specs.Fit.{fits}
 use Rattle.records.specs.Record.{element_at}
 use Rattle.tables.specs.JudgedRecords.{records_judged}
-use Rattle.judging.specs.declared.JudgeAnswer.{JudgeAnswer}
-use Rattle.judging.specs.declared.JudgeAnswer.TheVariants.{Done, Refused}
 
 -- elements i and j of a table, from 0, fit
 unfoldable pub pair_fits : List ℕ → ℕ → ℕ → Bool
@@ -30,10 +29,10 @@ unfoldable pub judged : (vertex_count element_count : ℕ) → List ℕ → Verd
 judged v n t = and_then (records_judged v n t) (pairs_judged t n)
 
 -- the answer of judging as a verdict: it has no values of its own
-abbrev pub judge_verdict : JudgeAnswer → Verdict (List ℕ)
-judge_verdict Done = accepted []
-judge_verdict (Refused r) = refused r
+abbrev pub judge_verdict : Result (Unit {0}) Refusal → Verdict (List ℕ)
+judge_verdict (Ok u) = accepted []
+judge_verdict (Err r) = refused r
 
 -- judging: the answer for every two counts and every table
-pub record JudgeDone (v n : ℕ) (t : List ℕ) (r : JudgeAnswer) : Type 0 where
+pub record JudgeDone (v n : ℕ) (t : List ℕ) (r : Result (Unit {0}) Refusal) : Type 0 where
   pub answer : answer_of [] (judge_verdict r) ≡ answer_of [] (and_then (judged v n t) λ es. accepted [])

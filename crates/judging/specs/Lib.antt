@@ -2,5 +2,6 @@
 pub mod Judge
 pub mod Judgement
 pub mod Acceptance
-pub mod PairLoops
-pub mod ChainLoops
+pub mod FirstPair
+pub mod Chained
+pub mod Marks

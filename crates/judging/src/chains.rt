@@ -1,110 +1,119 @@
 // The places of a table by their vertices: for each vertex the chain of the places that hold it, so that an element meets only those it has a vertex in common with.
-ghost use Rattle.std.specs.Prelude.{◌≡◌, not, ◌+◌, ◌*◌, ◌<◌, ltb};
-ghost use Rattle.limits.specs.Limits.{element_width};
+ghost use Rattle.std.specs.Prelude.{◌≡◌, not, ◌+◌, ltb};
 ghost use Rattle.judging.specs.Judge.{misfit};
-ghost use Rattle.judging.specs.ChainLoops.{Filed, Meeting, Met, Walking, Walked, Joining};
+ghost use Rattle.judging.specs.Chained.{Numbered};
+ghost use Rattle.judging.specs.Marks.{Meeting, Met, Walking, Walked};
 
+use crate::misfits::pair_fits;
 use limits::{ELEMENT_LIMIT, ELEMENT_NUMBERS, ELEMENT_WIDTH, VERTEX_LIMIT};
 use solids::Vertex;
+use std::marker::Model;
 
-// A number of a table as an index.
-fn wide(number: u16) -> usize
-    ensures { result ≡ number }
-{
-    number as usize
+// What is known of a filed element and the next one, whose vertices are gone through.
+#[derive(Clone, Copy, Debug, PartialEq, Eq)]
+enum Mark {
+    Unmet,
+    MetOnce,
+    Fits,
 }
 
-// A vertex as an index of `heads`. An index x of the whole table, and so of `links`, is no place of a solid and stays a plain number.
-fn chain_of(vertex: Vertex) -> usize
-    ensures { result ≡ vertex.0 }
-{
-    vertex.0 as usize
+// The places of a table's first elements, filed by their vertices.
+#[derive(Drop)]
+pub struct Chains<'a> {
+    table: &'a [u16],
+    filed: usize,
+    // The last place of each vertex, and for each place the one before it of the same vertex; 0 is no place, and an Option would make both twice as long.
+    heads: [u16; VERTEX_LIMIT + 1],
+    links: [u16; ELEMENT_NUMBERS],
 }
 
-// Meets element i at one more vertex of element j: 1 marks that they met once, 2 that they fit, which is tested when they meet again.
-#[tactic(auto, using(crate::proofs::ChainLaws::met_first, crate::proofs::ChainLaws::met_known))]
-fn fits_again(table: &[u16], i: usize, j: usize, seen: &mut [u8; ELEMENT_LIMIT]) -> bool
-    requires { Meeting table.now i j seen.old }
-    ensures { Met table.now i j seen.old seen.new result }
-{
-    if seen[i] == 0 {
-        seen[i] = 1;
-        return true;
-    }
-    if 1 < seen[i] {
-        return true;
-    }
-    if !fit::pair_fits(records::record_at(table, i), records::record_at(table, j)) {
-        return false;
-    }
-    seen[i] = 2;
-    true
+impl<'a> Model for Chains<'a> {
+    ghost use Rattle.std.specs.Prelude.{◌*◌};
+    ghost use Rattle.limits.specs.Limits.{element_width};
+    ghost use Rattle.judging.specs.Chained.{Chained, Filed};
+
+    ghost Value = { Chained };
+
+    ghost view = { λ c. record { table = c.table.now; filed = c.filed } };
+
+    ghost invariant = { λ c. Filed c.table.now (element_width * c.filed) c.heads c.links };
 }
 
-// Meets each element before j that holds the vertex; false where one of them does not fit j.
-fn chain_fits(
-    table: &[u16],
-    j: usize,
-    vertex: Vertex,
-    heads: &[u16; VERTEX_LIMIT + 1],
-    links: &[u16; ELEMENT_NUMBERS],
-    seen: &mut [u8; ELEMENT_LIMIT],
-) -> bool
-    requires { Walking table.now j vertex.0 heads.now links.now seen.old }
-    ensures { Walked table.now j vertex.0 seen.old seen.new result }
+// Meets element i at one more vertex of element j; when they meet again, they are tested. False where they do not fit.
+#[tactic(auto, using(crate::proofs::ChainLaws::met_first, crate::proofs::ChainLaws::met_known, crate::proofs::ChainLaws::met_bad, crate::proofs::ChainLaws::met_fit))]
+fn meet(table: &[u16], i: usize, j: usize, marks: &mut [Mark; ELEMENT_LIMIT]) -> bool
+    requires { Meeting table.now i j marks.old }
+    ensures { Met table.now i j marks.old marks.new result }
 {
-    let v = chain_of(vertex);
-    let mut x = wide(heads[v]);
-    while 0 < x {
-        if !fits_again(table, x / ELEMENT_WIDTH, j, seen) {
-            return false;
+    match marks[i] {
+        Mark::Unmet => {
+            marks[i] = Mark::MetOnce;
+            true
         }
-        x = wide(links[x]);
-    }
-    true
-}
-
-// Element j fits each element before it.
-pub fn fits_all(
-    table: &[u16],
-    j: usize,
-    heads: &[u16; VERTEX_LIMIT + 1],
-    links: &[u16; ELEMENT_NUMBERS],
-) -> bool
-    requires { Joining table.now j heads.now links.now }
-    ensures { result ≡ not (ltb 0 (misfit table.now j)) }
-{
-    let kind = wide(records::kind_of(records::record_at(table, j)));
-    let start = ELEMENT_WIDTH * j + 1;
-    let end = start + kind;
-    let mut seen = [0u8; ELEMENT_LIMIT];
-    let mut x = start;
-    while x < end {
-        if !chain_fits(table, j, Vertex(table[x]), heads, links, &mut seen) {
-            return false;
+        Mark::MetOnce => {
+            if !pair_fits(table, i, j) {
+                return false;
+            }
+            marks[i] = Mark::Fits;
+            true
         }
-        x += 1;
+        Mark::Fits => true,
     }
-    true
 }
 
-// Puts the places of element j at the front of the chains of their vertices.
-pub fn file_places(
-    table: &[u16],
-    j: usize,
-    heads: &mut [u16; VERTEX_LIMIT + 1],
-    links: &mut [u16; ELEMENT_NUMBERS],
-)
-    requires { Joining table.now j heads.old links.old }
-    ensures { Filed table.now (element_width * (j + 1)) heads.new links.new }
-{
-    let start = ELEMENT_WIDTH * j;
-    let end = start + ELEMENT_WIDTH;
-    let mut x = start + 1;
-    while x < end {
-        let v = chain_of(Vertex(table[x]));
-        links[x] = heads[v];
-        heads[v] = x as u16;
-        x += 1;
+impl<'a> Chains<'a> {
+    // No element is filed.
+    pub fn new(table: &'a [u16]) -> Chains<'a>
+        ensures { result ≡ record { table = table.now; filed = 0 } }
+    {
+        Chains {
+            table,
+            filed: 0,
+            heads: [0; VERTEX_LIMIT + 1],
+            links: [0; ELEMENT_NUMBERS],
+        }
+    }
+
+    // The next element meets each filed one that holds the vertex; false where one of them does not fit it.
+    fn chain_fits(&self, vertex: Vertex, marks: &mut [Mark; ELEMENT_LIMIT]) -> bool
+        requires { Walking self.now.table self.now.filed vertex.0 marks.old }
+        ensures { Walked self.now.table self.now.filed vertex.0 marks.old marks.new result }
+    {
+        let mut x = usize::from(self.heads[usize::from(vertex.0)]);
+        while 0 < x {
+            if !meet(self.table, x / ELEMENT_WIDTH, self.filed, marks) {
+                return false;
+            }
+            x = usize::from(self.links[x]);
+        }
+        true
+    }
+
+    // The next element fits each filed one.
+    pub fn fits_next(&self) -> bool
+        requires { Numbered self.now.table (self.now.filed + 1) }
+        ensures { result ≡ not (ltb 0 (misfit self.now.table self.now.filed)) }
+    {
+        let mut marks = [Mark::Unmet; ELEMENT_LIMIT];
+        for &vertex in records::corners_of(records::record_at(self.table, self.filed)) {
+            if !self.chain_fits(Vertex(vertex), &mut marks) {
+                return false;
+            }
+        }
+        true
+    }
+
+    // Puts the places of the next element at the front of the chains of their vertices.
+    pub fn file_next(&mut self)
+        requires { Numbered self.old.table (self.old.filed + 1) }
+        ensures { self.new ≡ record self.old { filed = self.old.filed + 1 } }
+    {
+        let start = ELEMENT_WIDTH * self.filed;
+        for x in start + 1..start + ELEMENT_WIDTH {
+            let v = usize::from(self.table[x]);
+            self.links[x] = self.heads[v];
+            self.heads[v] = x as u16;
+        }
+        self.filed += 1;
     }
 }

@@ -1,40 +1,47 @@
 // Whether the elements of a table fit together: the search for the first pair that does not fit. The verdict of a pair is that of the room fit.
-ghost use Rattle.std.specs.Prelude.{◌≡◌};
-ghost use Rattle.judging.specs.Judge.{misfit, bad_element};
-ghost use Rattle.judging.specs.ChainLoops.{Numbered};
+ghost use Rattle.std.specs.Prelude.{◌≡◌, MatchOption};
+ghost use Rattle.judging.specs.Judge.{pair_fits, misfit, bad_element};
+ghost use Rattle.judging.specs.Chained.{Numbered};
+ghost use Rattle.judging.specs.FirstPair.{from_one, BadPair};
 
-use crate::chains;
-use limits::{ELEMENT_NUMBERS, VERTEX_LIMIT};
+use crate::chains::Chains;
 
-// The number, from 1, of the lowest i below j that does not fit j, or 0.
-pub fn misfit_of(table: &[u16], j: usize) -> usize
-    ensures { result ≡ misfit table.now j }
+// Elements i and j fit.
+#[tactic(auto, using(crate::proofs::ChainLaws::pair_verdict))]
+pub fn pair_fits(table: &[u16], i: usize, j: usize) -> bool
+    ensures { result ≡ pair_fits table.now i j }
 {
-    let element = records::record_at(table, j);
-    let mut i = 0;
-    while i < j {
-        if !fit::pair_fits(records::record_at(table, i), element) {
-            return i + 1;
-        }
-        i += 1;
-    }
-    0
+    fit::pair_fits(records::record_at(table, i), records::record_at(table, j))
 }
 
-// The number, from 1, of the lowest of n elements that has a misfit, or 0.
-pub fn bad_element(table: &[u16], n: usize) -> usize
-    requires { Numbered table.now n }
-    ensures { result ≡ bad_element table.now n }
+// The lowest i below j that does not fit j.
+fn misfit_of(table: &[u16], j: usize) -> Option<usize>
+    ensures { from_one result ≡ misfit table.now j }
 {
-    let mut heads = [0u16; VERTEX_LIMIT + 1];
-    let mut links = [0u16; ELEMENT_NUMBERS];
-    let mut j = 0;
-    while j < n {
-        if !chains::fits_all(table, j, &heads, &links) {
-            return j + 1;
+    (0..j).find(|&i| !pair_fits(table, i, j))
+}
+
+// The lowest of n elements that has a misfit.
+fn bad_element(table: &[u16], n: usize) -> Option<usize>
+    requires { Numbered table.now n }
+    ensures { from_one result ≡ bad_element table.now n }
+{
+    let mut chains = Chains::new(table);
+    for j in 0..n {
+        if !chains.fits_next() {
+            return Some(j);
         }
-        chains::file_places(table, j, &mut heads, &mut links);
-        j += 1;
+        chains.file_next();
     }
-    0
+    None
+}
+
+// The first pair that does not fit, by its lowest j and then its lowest i: j and i.
+pub fn bad_pair(table: &[u16], n: usize) -> Option<(usize, usize)>
+    requires { Numbered table.now n }
+    ensures { MatchOption result (bad_element table.now n ≡ 0) (λ p. BadPair table.now n p.0 p.1) }
+{
+    let j = bad_element(table, n)?;
+    let i = misfit_of(table, j)?;
+    Some((j, i))
 }

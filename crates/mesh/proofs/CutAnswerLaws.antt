@@ -4,9 +4,10 @@ use mathlib.Core.Path.{◌≡◌, sym, ap, ◌∙◌, subst}
 use mathlib.Core.List.{List, [], ◌∷◌, map}
 use Prim.Native.Nat.{ℕ, ◌*◌, ◌/◌, ◌≤◌, ◌<◌}
 use native.Mathlib.Omega.{arith}
+use Rattle.std.specs.Prelude.{Result, Ok, Err}
 use lib.ListN.{length, take, length-map}
-use lib.Seq.{length-take-le}
 use borrow.Author.Tests.{lt-ltb, le-ltb}
+use Rattle.std.specs.Prelude.{Ok, Err}
 use Rattle.limits.specs.Limits.{tetrahedron_width, tetrahedron_limit}
 use Rattle.laws.specs.Lent.{laid}
 use Rattle.laws.proofs.LentLaws.{laid_none}
@@ -16,30 +17,29 @@ use Rattle.faults.specs.Refusals.{accepted, refuse, answer_of}
 use Rattle.solids.specs.Solids.{Tet}
 use Rattle.solids.specs.Cut.{cut_mesh}
 use Rattle.tets.specs.Tets.{keyed}
-use Rattle.blocks.specs.declared.BlocksAnswer.TheVariants as blocks
 use Rattle.blocks.specs.Blocks.{BlocksDone, BlocksCut}
 use Rattle.blocks.proofs.Theorems.{blocks_refused, blocks_cut, keys_few, keys_kept, keys_first, keys_tell}
-use Rattle.mesh.specs.declared.CutAnswer.{CutAnswer}
-use Rattle.mesh.specs.declared.CutAnswer.TheVariants.{Done, Refused}
+use Rattle.mesh.specs.declared.CutCounts.{CutCounts}
 use Rattle.mesh.specs.Cutting.{flat, cut_of, CutDone}
 use Rattle.mesh.specs.StoreLoops.{roomed, CutStored}
 
 -- ---- tetrahedra that are stored where there is room
 
-module _ (keys old : List ℕ) (n : ℕ) (long : n ≤ length keys) where
+module _ (keys old : List ℕ) where
   abbrev told : List (Tet ℕ)
-  told = map keyed (take n keys)
+  told = map keyed keys
 
-  told_length : length told ≡ n
-  told_length = length-map (take n keys) keyed ∙ length-take-le n keys long
+  told_length : length told ≡ length keys
+  told_length = length-map keys keyed
 
-  pub no_room : length old / 4 < n → CutStored told old (Refused (refuse Room 0)) old
+  pub no_room : length old / 4 < length keys → CutStored told old (Err (refuse Room 0)) old
   unfolding roomed
   no_room h =
       let short = lt-ltb (length old) (tetrahedron_width * length told) (omega (arith, told_length)) in
       record { answer = rw short; output = rw short (sym (laid_none old)) }
 
-  pub with_room : n ≤ length old / 4 → {new : List ℕ} → new ≡ laid (flat told) old → CutStored told old (Done (record { tetrahedra = n })) new
+  pub with_room : length keys ≤ length old / 4 → {new : List ℕ} → new ≡ laid (flat told) old
+      → CutStored told old (Ok (record { tetrahedra = length keys })) new
   unfolding roomed
   with_room h o =
       let enough = le-ltb (length old) (tetrahedron_width * length told) (omega (arith, told_length)) in
@@ -49,11 +49,11 @@ module _ (keys old : List ℕ) (n : ℕ) (long : n ≤ length keys) where
 
 module _ {v n : ℕ} {t keys sizes keys' sizes' : List ℕ} where
   -- refused as judged
-  pub table-refused : {old : List ℕ} {x : Refusal} → BlocksDone v n t keys sizes (blocks.Refused x) keys' sizes' → CutDone v n t old (Refused x) old
+  pub table-refused : {old : List ℕ} {x : Refusal} → BlocksDone v n t keys sizes (Err x) keys' sizes' → CutDone v n t old (Err x) old
   unfolding cut_of
   table-refused {old} h = let e = blocks_refused h in record { answer = rw e; output = rw e (sym (laid_none old)) }
 
-  module _ {count : ℕ} (h : BlocksDone v n t keys sizes (blocks.Done count) keys' sizes') where
+  module _ {count : ℕ} (h : BlocksDone v n t keys sizes (Ok count) keys' sizes') where
     b : BlocksCut v n t keys sizes count keys' sizes'
     b = blocks_cut h
 
@@ -62,13 +62,10 @@ module _ {v n : ℕ} {t keys sizes keys' sizes' : List ℕ} where
     tets_told = ap (map keyed) (keys_first b) ∙ keys_tell v n t b.elements b.accepts
 
     -- all the keys are there
-    pub keys_whole : tetrahedron_limit ≤ length keys → length keys ≡ length keys'
-    keys_whole l = sym (keys_kept b l)
-
     pub keys_enough : tetrahedron_limit ≤ length keys → count ≤ length keys'
     keys_enough l = omega (arith, keys_few b, keys_kept b l)
 
-    pub table-cut : {old : List ℕ} {r : CutAnswer} {new : List ℕ} → CutStored (map keyed (take count keys')) old r new → CutDone v n t old r new
+    pub table-cut : {old : List ℕ} {r : Result CutCounts Refusal} {new : List ℕ} → CutStored (map keyed (take count keys')) old r new → CutDone v n t old r new
     unfolding cut_of roomed
     table-cut {old} {r} {new} s =
         let e = b.accepts in

@@ -5,8 +5,9 @@ use mathlib.Core.List.{List, [], ◌∷◌, ◌++◌, map, map-append}
 use Prim.Native.Nat.{ℕ, ◌+◌, ◌*◌, ◌≤◌, ◌<◌}
 use native.Mathlib.Numerals.{add-one}
 use native.Mathlib.Omega.{arith}
-use lib.ListN.{length, take, get_or, length-map}
-use lib.Seq.{take-suc, length-take-le}
+use lib.ListN.{length, take, drop, get_or, length-map}
+use lib.Seq.{take-suc, length-take-le, drop-drop}
+use borrow.Rule.Slice.PartMut.{put_mid}
 use Rattle.limits.specs.Limits.{tetrahedron_width}
 use Rattle.laws.specs.Lent.{placed}
 use Rattle.laws.proofs.LentLaws.{placed-placed}
@@ -23,6 +24,12 @@ pub length-flat : (x : List (Tet ℕ)) → length (flat x) ≡ tetrahedron_width
 unfolding flat
 length-flat [] = refl
 length-flat (tet a b c d ∷ x) = omega (arith, length-flat x)
+
+-- numbers copied over a part as long as they are
+pub put_mid-placed : (l : List ℕ) (at : ℕ) {k : ℕ} (b : List ℕ) {ys : List ℕ} → ys ≡ b → k ≡ length b → put_mid at k l ys ≡ placed l at b
+unfolding placed
+put_mid-placed l at b e f =
+    (λ i. take at l ++ (e i ++ drop (f i) (drop at l))) ∙ ap (λ (x : List ℕ). take at l ++ (b ++ x)) (drop-drop (length b) at l)
 
 -- tetrahedra placed right after others
 placed-after : (l : List ℕ) (x y : List (Tet ℕ)) {m : ℕ} → m ≡ tetrahedron_width * length x → tetrahedron_width * length x ≤ length l

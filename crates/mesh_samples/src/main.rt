@@ -1,17 +1,8 @@
 // Tables judged, cut and counted by sign, printed as the library answers them: a line is the answer's numbers, or `NO number place second`.
 #![tactic(auto)]
 
-use faults::{Refusal, number_of};
-use judging::JudgeAnswer;
-use mesh::CutAnswer;
-use signs::SignAnswer;
+use signs::SignCounts;
 use std::io;
-
-fn print_refusal(rt: &impl Print, refusal: Refusal) -> io::Result<()> {
-    let number = number_of(refusal.fault);
-    let (place, second) = (refusal.place, refusal.second);
-    println!(rt; " NO {number} {place} {second}")
-}
 
 fn judge(
     rt: &impl Print,
@@ -22,14 +13,14 @@ fn judge(
 ) -> io::Result<()> {
     print!(rt; "{name}")?;
     match judging::judge_mesh(vertices, count, table) {
-        JudgeAnswer::Done => println!(rt; " DONE"),
-        JudgeAnswer::Refused(refusal) => print_refusal(rt, refusal),
+        Ok(()) => println!(rt; " DONE"),
+        Err(refusal) => println!(rt; " {refusal}"),
     }
 }
 
-// The first numbers of an output, then a line's end.
-fn print_output(rt: &impl Print, output: &[u16], count: usize) -> io::Result<()> {
-    for number in output.iter().take(count) {
+// The numbers of an output, then a line's end.
+fn print_output(rt: &impl Print, output: &[u16]) -> io::Result<()> {
+    for number in output {
         print!(rt; " {number}")?;
     }
     println!(rt)
@@ -46,13 +37,13 @@ fn cut(
     let mut output = [9u16; 32];
     print!(rt; "{name}")?;
     match mesh::cut_mesh(vertices, count, table, &mut output) {
-        CutAnswer::Done(counts) => {
+        Ok(counts) => {
             print!(rt; " DONE {}:", counts.tetrahedra)?;
-            print_output(rt, &output, 32)
+            print_output(rt, &output)
         }
-        CutAnswer::Refused(refusal) => {
-            print_refusal(rt, refusal)?;
-            print_output(rt, &output, 4)
+        Err(refusal) => {
+            println!(rt; " {refusal}")?;
+            print_output(rt, &output[..4])
         }
     }
 }
@@ -66,12 +57,15 @@ fn signs(
 ) -> io::Result<()> {
     print!(rt; "{name}")?;
     match signs::sign_report(6, count, table, vertices) {
-        SignAnswer::Done(counts) => {
-            let (positive, zero) = (counts.positive, counts.zero);
-            let (negative, unsound) = (counts.negative, counts.unsound);
-            println!(rt; " DONE {positive} {zero} {negative} {unsound}")
-        }
-        SignAnswer::Refused(refusal) => print_refusal(rt, refusal),
+        Ok(
+            SignCounts {
+                positive,
+                zero,
+                negative,
+                unsound,
+            },
+        ) => println!(rt; " DONE {positive} {zero} {negative} {unsound}"),
+        Err(refusal) => println!(rt; " {refusal}"),
     }
 }
 

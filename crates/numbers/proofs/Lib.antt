@@ -1,4 +1,3 @@
 -- What is proved of reading numbers.
 pub mod PartLaws
-pub mod NegativeLaws
 pub mod Theorems

@@ -1,62 +1,47 @@
--- The table of faces in the code is the page's: an entry is a place of a face, and outside there is none. Every place is at most 8.
+-- The table of faces in the code is the page's: what stands in it is a place of a face, and outside there is none. Every place is at most 8.
 -- Assumes nothing.
-use mathlib.Core.Path.{◌≡◌, ap}
-use mathlib.Core.Bool.{Bool}
+use mathlib.Core.Path.{◌≡◌, refl, sym, ap, ◌∙◌}
 use mathlib.Core.List.{List, [], ◌∷◌, map}
-use Prim.Native.Nat.{ℕ, zero, suc, ◌+◌, ◌≤◌, ◌<◌, zero-le}
-use native.Mathlib.Nat.{le_trans}
-use lib.Dec.{T, eqb, leb, eqb→eq, leb→le}
+use Prim.Native.Nat.{ℕ, zero, suc, ◌≤◌, zero-le}
+use lib.Dec.{T, leb}
 use lib.ListN.{length, get_or, length-map, get_or-eq_default}
 use Rattle.laws.specs.Words.{every}
 use Rattle.solids.specs.declared.Solid.{Solid}
 use Rattle.solids.specs.declared.Solid.TheVariants.{Tetrahedron, Pyramid, Prism, Hexahedron}
 use Rattle.solids.specs.Solids.{Face, three, four, faces, face_count, face_corners, face_place, of_face}
-use Rattle.places.specs.PlaceLoops.{face_rows, first_face}
-use Rattle.laws.proofs.TestLaws.{and_left, and_right, below, at_below}
+use Rattle.places.specs.PlaceLoops.{padded, face_rows}
+use Rattle.laws.proofs.TestLaws.{and_left, and_right}
 use Rattle.solids.proofs.RowPlaces.{at_any}
 
 -- ---- the faces
 
--- one test for each face of a solid and each of four corners
-abbrev face_right : Solid → ℕ → ℕ → Bool
-face_right s i k = eqb (face_place s i k) (get_or (get_or face_rows (first_face s + i) []) k 0)
+-- the place 0 behind a triangle is none
+padded_at : (F : Face ℕ) (k : ℕ) → get_or (padded F) k 0 ≡ get_or (of_face F) k 0
+padded_at (three p q r) zero = refl
+padded_at (three p q r) (suc zero) = refl
+padded_at (three p q r) (suc (suc zero)) = refl
+padded_at (three p q r) (suc (suc (suc zero))) = refl
+padded_at (three p q r) (suc (suc (suc (suc k)))) = refl
+padded_at (four p q r s) k = refl
 
-faces_right : (s : Solid) → T (below (face_count s) (λ i. below 4 (face_right s i)))
+padded_in : (fs : List (Face ℕ)) (i k : ℕ) → get_or (get_or (map padded fs) i []) k 0 ≡ get_or (get_or (map of_face fs) i []) k 0
+padded_in [] i k = refl
+padded_in (F ∷ fs) zero k = padded_at F k
+padded_in (F ∷ fs) (suc i) k = padded_in fs i k
+
+padded_place : (s : Solid) (i k : ℕ) → get_or (get_or (face_rows s) i []) k 0 ≡ face_place s i k
 unfolding face_place face_corners face_rows
-faces_right Tetrahedron = tt
-faces_right Pyramid = tt
-faces_right Prism = tt
-faces_right Hexahedron = tt
+padded_place s i k = padded_in (faces s) i k
 
-pub face_entry : (s : Solid) (i k : ℕ) → i < face_count s → k < 4 → face_place s i k ≡ get_or (get_or face_rows (first_face s + i) []) k 0
-face_entry s i k h j =
-    eqb→eq (face_place s i k) (get_or (get_or face_rows (first_face s + i) []) k 0)
-    (at_below 4 (face_right s i) (at_below (face_count s) (λ l. below 4 (face_right s l)) (faces_right s) i h) k j)
+pub found_place : (s : Solid) (i k : ℕ) {rows : List (List ℕ)} {row : List ℕ} {p : ℕ} → rows ≡ face_rows s → row ≡ get_or rows i [] → p ≡ get_or row k 0 → p ≡ face_place s i k
+found_place s i k e f g = g ∙ ap (λ l. get_or l k 0) (f ∙ ap (λ l. get_or l i []) e) ∙ padded_place s i k
 
--- the faces of all solids stand in the table
-pub face_inside : (s : Solid) → first_face s + face_count s ≤ 20
-face_inside Tetrahedron = leb→le 4 20 tt
-face_inside Pyramid = leb→le 9 20 tt
-face_inside Prism = leb→le 14 20 tt
-face_inside Hexahedron = leb→le 20 20 tt
+pub no_place : (s : Solid) (i k : ℕ) {rows : List (List ℕ)} → rows ≡ face_rows s → length rows ≤ i → 0 ≡ face_place s i k
+no_place s i k {rows} e h = found_place s i k e (sym (get_or-eq_default rows [] h)) refl
 
-pub face_beyond : (s : Solid) (i k : ℕ) → face_count s ≤ i → face_place s i k ≡ 0
-unfolding face_place face_corners
-face_beyond s i k h =
-    ap (λ (l : List ℕ). get_or l k 0) (get_or-eq_default (map of_face (faces s)) [] (rw (length-map (faces s) of_face) h))
-
-corners-few : (F : Face ℕ) → length (of_face F) ≤ 4
-corners-few (three p q r) = leb→le 3 4 tt
-corners-few (four p q r s) = leb→le 4 4 tt
-
-few-at : (fs : List (Face ℕ)) (i : ℕ) → length (get_or (map of_face fs) i []) ≤ 4
-few-at [] i = zero-le
-few-at (F ∷ fs) zero = corners-few F
-few-at (F ∷ fs) (suc i) = few-at fs i
-
-pub corner_beyond : (s : Solid) (i k : ℕ) → 4 ≤ k → face_place s i k ≡ 0
-unfolding face_place face_corners
-corner_beyond s i k h = get_or-eq_default (get_or (map of_face (faces s)) i []) 0 (le_trans (few-at (faces s) i) h)
+pub padded_count : (s : Solid) → length (face_rows s) ≡ face_count s
+unfolding face_rows
+padded_count s = length-map (faces s) padded
 
 -- ---- every place is at most 8
 

@@ -4,66 +4,46 @@
 ghost use Rattle.std.specs.Prelude.{◌≡◌};
 ghost use Rattle.solids.specs.Solids.{face_count, face_place};
 ghost use Rattle.solids.specs.Rows.{row_place, cut_places};
-ghost use Rattle.places.specs.PlaceLoops.{first_face};
 
 use solids::{Place, Solid};
+use tables::{CUTS, faces_of};
 
 mod tables;
 
 // How many faces a solid has.
+#[tactic(auto, using(crate::proofs::PlaceTableLaws::padded_count))]
 pub fn face_count(solid: Solid) -> usize
     ensures { result ≡ face_count solid }
 {
-    match solid {
-        Solid::Tetrahedron => 4,
-        Solid::Pyramid => 5,
-        Solid::Prism => 5,
-        Solid::Hexahedron => 6,
-    }
-}
-
-// Where the faces of a solid start in the table of faces.
-fn first_face(solid: Solid) -> usize
-    ensures { result ≡ first_face solid }
-{
-    match solid {
-        Solid::Tetrahedron => 0,
-        Solid::Pyramid => 4,
-        Solid::Prism => 9,
-        Solid::Hexahedron => 14,
-    }
+    faces_of(solid).len()
 }
 
 // The place `corner` of the face `face` of a solid, both from 0; none where there is no such place.
-#[tactic(auto, using(crate::proofs::PlaceTableLaws::corner_beyond))]
+// None is 0, not an Option: the page's own definitions of places say it so.
+#[tactic(auto, using(crate::proofs::PlaceTableLaws::found_place, crate::proofs::PlaceTableLaws::no_place))]
 pub fn face_place(solid: Solid, face: usize, corner: usize) -> Place
     ensures { result.0 ≡ face_place solid face corner }
 {
-    if face_count(solid) <= face {
+    let Some(places) = faces_of(solid).get(face) else {
         return Place(0);
-    }
-    if 4 <= corner {
-        return Place(0);
-    }
-    Place(tables::face_entry(first_face(solid) + face, corner))
+    };
+    Place(places.get(corner).copied().unwrap_or(0))
 }
 
 // The place `at` of a row of the hexahedron's cuts, both from 0; none where there is no such place.
 pub fn row_place(row: usize, at: usize) -> Place
     ensures { result.0 ≡ row_place row at }
 {
-    if 64 <= row {
-        return Place(0);
+    if row < 64 && at < 24 {
+        Place(CUTS[row * 24 + at])
+    } else {
+        Place(0)
     }
-    if 24 <= at {
-        return Place(0);
-    }
-    Place(tables::cut_entry(row * 24 + at))
 }
 
 // The hexahedron's cuts whole: the places of all rows, one row after the other.
 pub fn cut_places() -> [u8; 1536]
     ensures { result ≡ cut_places }
 {
-    tables::cuts()
+    CUTS
 }

@@ -1,24 +1,29 @@
 // The tables of the solids: the faces, and the hexahedron's cuts.
-ghost use Rattle.std.specs.Prelude.{◌≡◌, [], ◌<◌, get_or};
-ghost use Rattle.solids.specs.Rows.{cut_places};
+ghost use Rattle.std.specs.Prelude.{◌≡◌};
 ghost use Rattle.places.specs.PlaceLoops.{face_rows};
 
-// The faces of the tetrahedron, the pyramid, the prism and the hexahedron; the fourth place of a triangle is 0.
-const FACES: [[u8; 4]; 20] = [
-    [2, 3, 4, 0],
-    [1, 4, 3, 0],
-    [1, 2, 4, 0],
-    [1, 3, 2, 0],
+use solids::Solid;
+
+// The faces of each solid, by their places; the fourth place of a triangle is 0.
+const TETRAHEDRON: [[u8; 4]; 4] = [[2, 3, 4, 0], [1, 4, 3, 0], [1, 2, 4, 0], [1, 3, 2, 0]];
+
+const PYRAMID: [[u8; 4]; 5] = [
     [1, 4, 3, 2],
     [1, 2, 5, 0],
     [2, 3, 5, 0],
     [3, 4, 5, 0],
     [4, 1, 5, 0],
+];
+
+const PRISM: [[u8; 4]; 5] = [
     [1, 3, 2, 0],
     [4, 5, 6, 0],
     [1, 2, 5, 4],
     [2, 3, 6, 5],
     [3, 1, 4, 6],
+];
+
+const HEXAHEDRON: [[u8; 4]; 6] = [
     [1, 4, 3, 2],
     [1, 2, 6, 5],
     [1, 5, 8, 4],
@@ -27,9 +32,23 @@ const FACES: [[u8; 4]; 20] = [
     [3, 4, 8, 7],
 ];
 
+// The faces of a solid.
+#[tactic(auto, unfolding(crate::specs::PlaceLoops::face_rows))]
+pub fn faces_of(solid: Solid) -> &'static [[u8; 4]]
+    ensures { result.now ≡ face_rows solid }
+{
+    match solid {
+        Solid::Tetrahedron => &TETRAHEDRON,
+        Solid::Pyramid => &PYRAMID,
+        Solid::Prism => &PRISM,
+        Solid::Hexahedron => &HEXAHEDRON,
+    }
+}
+
 // The hexahedron's cuts, 64 rows of 24 places: six tetrahedra for each lowest corner and each choice of its far diagonals (1 where the diagonal
 // passes the opposite corner), the sixth of a five-row being four zeros.
-const CUTS: [u8; 1536] = [
+// One row after the other, since `cut_places` hands them out so.
+pub static CUTS: [u8; 1536] = [
     // row 0: lowest corner 1, far diagonals 0 0 0
     1, 2, 3, 6, 1, 3, 4, 8, 1, 3, 8, 6, 1, 5, 6, 8, 3, 6, 7, 8, 0, 0, 0, 0,
     // row 1: lowest corner 1, far diagonals 1 0 0
@@ -159,26 +178,3 @@ const CUTS: [u8; 1536] = [
     // row 63: lowest corner 8, far diagonals 1 1 1
     1, 2, 4, 8, 1, 2, 8, 5, 2, 3, 4, 8, 2, 3, 8, 7, 2, 5, 6, 8, 2, 6, 7, 8,
 ];
-
-// A place of the table of faces.
-pub fn face_entry(row: usize, corner: usize) -> u8
-    requires { (row < 20) × (corner < 4) }
-    ensures { result ≡ get_or (get_or face_rows row []) corner 0 }
-{
-    FACES[row][corner]
-}
-
-// A place of the table of cuts.
-pub fn cut_entry(i: usize) -> u8
-    requires { i < 1536 }
-    ensures { result ≡ get_or cut_places i 0 }
-{
-    CUTS[i]
-}
-
-// The whole table of cuts, for a caller that reads many places.
-pub fn cuts() -> [u8; 1536]
-    ensures { result ≡ cut_places }
-{
-    CUTS
-}

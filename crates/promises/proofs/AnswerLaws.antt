@@ -7,6 +7,7 @@ use Prim.Native.Nat.{ℕ, ◌*◌, ◌≤◌}
 use native.Mathlib.Omega.{arith}
 use lib.Dec.{T, ltb}
 use lib.ListN.{length, drop}
+use Rattle.std.specs.Prelude.{Ok}
 use borrow.Author.Tests.{ltb-false, le-ltb}
 use Rattle.limits.specs.Limits.{tetrahedron_width}
 use Rattle.laws.specs.Words.{gather}
@@ -18,8 +19,6 @@ use Rattle.faults.proofs.Theorems.{answer_tells_verdict}
 use Rattle.solids.specs.Solids.{Vertex, Tet, tet, Element, of_tet}
 use Rattle.solids.specs.Cut.{cut_mesh}
 use Rattle.records.specs.Record.{first_elements}
-use Rattle.judging.specs.declared.JudgeAnswer.TheVariants as judge
-use Rattle.mesh.specs.declared.CutAnswer.TheVariants as cut
 use Rattle.judging.specs.Judge.{judged, JudgeDone}
 use Rattle.mesh.specs.Cutting.{flat, cut_of, CutDone}
 use Rattle.signs.specs.Signs.{is_accepted}
@@ -42,14 +41,14 @@ accepted-first v n t es e = e ∙ ap accepted (accepted-elements v n t es e)
 
 -- ---- judging
 
-pub judge_accepted : (v n : ℕ) (t : List ℕ) → JudgeDone v n t judge.Done → judged v n t ≡ accepted (first_elements t n)
+pub judge_accepted : (v n : ℕ) (t : List ℕ) → JudgeDone v n t (Ok tt) → judged v n t ≡ accepted (first_elements t n)
 judge_accepted v n t d = go (judged v n t) refl (answer_tells_verdict [] (accepted []) (and_then (judged v n t) λ es. accepted []) d.answer)
   where
     go : (x : Verdict (List Element)) → judged v n t ≡ x → accepted [] ≡ and_then {B = List ℕ} x (λ es. accepted []) → judged v n t ≡ accepted (first_elements t n)
     go (accepted es) p q = accepted-first v n t es p
     go (refused r) p q = absurd (never_both q)
 
-pub accepted_judge : (v n : ℕ) (t : List ℕ) (es : List Element) → judged v n t ≡ accepted es → JudgeDone v n t judge.Done
+pub accepted_judge : (v n : ℕ) (t : List ℕ) (es : List Element) → judged v n t ≡ accepted es → JudgeDone v n t (Ok tt)
 accepted_judge v n t es e = record { answer = ap (λ (x : Verdict (List Element)). answer_of [] (and_then x λ es. accepted [])) (sym e) }
 
 -- ---- cutting
@@ -88,7 +87,7 @@ pub record DoneCut (v n : ℕ) (t old : List ℕ) (count : ℕ) (new : List ℕ)
   pub output : new ≡ laid (flat (cut_mesh (first_elements t n))) old
 
 module _ (v n : ℕ) (t old : List ℕ) (count : ℕ) (new : List ℕ) where
-  pub answer-done : CutDone v n t old (cut.Done (record { tetrahedra = count })) new → DoneCut v n t old count new
+  pub answer-done : CutDone v n t old (Ok (record { tetrahedra = count })) new → DoneCut v n t old count new
   answer-done d =
       go (cut_of v n t (length old)) refl
       (answer_tells_verdict (0 ∷ []) (accepted (count ∷ [])) (and_then (cut_of v n t (length old)) λ ts. accepted (length ts ∷ [])) d.answer)
@@ -107,7 +106,7 @@ module _ (v n : ℕ) (t old : List ℕ) (count : ℕ) (new : List ℕ) where
             output = d.output ∙ ap (λ (x : Verdict (List (Tet Vertex))). laid (records_of flat x) old) e;
           }
 
-  pub done-answer : DoneCut v n t old count new → CutDone v n t old (cut.Done (record { tetrahedra = count })) new
+  pub done-answer : DoneCut v n t old count new → CutDone v n t old (Ok (record { tetrahedra = count })) new
   done-answer d =
       let e = cut-accepted v n t (length old) d.cuts in
       record {

@@ -12,7 +12,7 @@ use Rattle.laws.specs.Words.{every, among, distinct, gather}
 use Rattle.laws.specs.Lent.{laid}
 use Rattle.laws.proofs.TestLaws.{and_left, and_right, and_both}
 use Rattle.laws.proofs.EveryLaws.{every_index, every_indexed, every_both, every_implies, every_append, among-every}
-use Rattle.faults.specs.declared.Finding.TheVariants.{Clean}
+use Rattle.std.specs.Prelude.{Ok}
 use Rattle.faults.specs.Refusals.{accepted}
 use Rattle.solids.specs.Solids.{Vertex, Tet, tet, Element, of_tet, corners_of}
 use Rattle.solids.specs.Cut.{cut, cut_mesh}
@@ -61,7 +61,7 @@ module _ (ts : List (Tet Vertex)) where
         first_are t (length ts) (as_element d) (map as_element ts) (length-map ts as_element)
         (λ k h. ap element_of (w.each k h) ∙ record_element (get_or ts k d) ∙ sym (get_or-map as_element ts k d))
 
-    table-clean : (limit : ℕ) → T (every (is_good limit) ts) → (k : ℕ) → k < length ts → record_finding limit (record_at t k) ≡ Clean
+    table-clean : (limit : ℕ) → T (every (is_good limit) ts) → (k : ℕ) → k < length ts → record_finding limit (record_at t k) ≡ Ok tt
     table-clean limit g k h =
         ap (record_finding limit) (w.each k h)
         ∙ faultless_clean limit (as_record (get_or ts k d)) (record_faultless limit (get_or ts k d) (every_index (is_good limit) ts d k g h))

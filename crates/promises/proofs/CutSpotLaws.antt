@@ -11,7 +11,7 @@ use lib.ListN.{length, get_or}
 use Rattle.limits.specs.Limits.{element_limit, tetrahedron_width, vertex_limit, element_width}
 use Rattle.laws.specs.Words as words
 use Rattle.faults.specs.declared.Fault.TheVariants as fault
-use Rattle.faults.specs.declared.Finding.TheVariants.{Clean, Found}
+use Rattle.std.specs.Prelude.{Ok, Err}
 use Rattle.faults.specs.declared.Refusal.{Refusal}
 use Rattle.faults.specs.Refusals.{Verdict, accepted, refused, refuse, refuse_pair, refuse_if, and_then}
 use Rattle.solids.specs.Solids.{Element}
@@ -55,7 +55,7 @@ unfolding record_finding
 finding_late v r h = rw h.none (go (not (eqb (length r) element_width && is_kind (kind_of r))) (words.some not_zero (spare_of r)) (not (words.distinct (used_of r))))
   where
     go : (a b c : Bool)
-        → refuser_of (fault_in (cond a (Found fault.Kind) (cond b (Found fault.Spare) (cond c (Found fault.Repeat) Clean)))) ≡ Judging
+        → refuser_of (fault_in (cond a (Err fault.Kind) (cond b (Err fault.Spare) (cond c (Err fault.Repeat) (Ok tt))))) ≡ Judging
     go true b c = refl
     go false true c = refl
     go false false true = refl

@@ -23,10 +23,12 @@ use mathlib.Core.Bool.{true, cond}
 use mathlib.Core.List.{List, [], ◌∷◌}
 use lib.IntN.{ℤ, pos}
 use lib.ListN.{length, get_or}
+use Rattle.faults.specs.declared.Refusal.{Refusal}
+use Rattle.std.specs.Prelude.{Some, Ok, Result}
 use Rattle.limits.specs.Limits.{file_limit, vertex_limit, element_limit, vertex_width, element_width, number_digits}
 use Rattle.laws.specs.Words.{distinct}
 use Rattle.laws.proofs.TestLaws.{T_true}
-use Rattle.faults.specs.declared.Finding.TheVariants.{Clean, Found}
+use Rattle.std.specs.Prelude.{Ok, Err}
 use Rattle.faults.specs.declared.Fault.TheVariants.{Repeat}
 use Rattle.faults.proofs.Theorems.{answer_tells_verdict}
 use Rattle.volume.specs.Volume.{in_range, point_at}
@@ -34,16 +36,10 @@ use Rattle.volume.specs.declared.Point.{Point}
 use Rattle.records.specs.Record.{used_of, record_finding, record_at}
 use Rattle.records.proofs.RecordLaws.{clean_faultless}
 use Rattle.signs.specs.Signs.{signs_of, accepted_tables, sign_verdict, SignDone}
-use Rattle.signs.specs.declared.SignAnswer.{SignAnswer}
-use Rattle.signs.specs.declared.SignAnswer.TheVariants as sign
 use Rattle.signs.specs.declared.SignCounts.{SignCounts}
 use Rattle.format.specs.Number.{coordinate_of, number_of}
-use Rattle.format.specs.declared.Spelt.TheVariants.{Of}
-use Rattle.format.specs.declared.Coordinate.TheVariants.{Thousandths}
 use Rattle.format.specs.declared.Rooms.{Rooms}
 use Rattle.text.specs.Reading.{ReadDone}
-use Rattle.text.specs.declared.ReadAnswer.{ReadAnswer}
-use Rattle.text.specs.declared.ReadAnswer.TheVariants as read
 use Rattle.text.specs.declared.ReadCounts.{ReadCounts}
 use Rattle.text.proofs.Theorems.{accepted_stores, accepted_counts}
 use Rattle.writing.specs.Written.{decimal, coordinate_text, vertex_line, element_line, end_line, written_file}
@@ -56,18 +52,18 @@ use Rattle.promises.proofs.ReadBackAgain.{record_kept, vertices-front, elements-
 
 -- ---- tables that the sign report accepts
 
-pub sign_report_accepts : (v n : ℕ) (t : List ℕ) (table : List ℤ) (c : SignCounts) → SignDone v n t table (sign.Done c)
+pub sign_report_accepts : (v n : ℕ) (t : List ℕ) (table : List ℤ) (c : SignCounts) → SignDone v n t table (Ok c)
     → accepted_tables v n t table ≡ true
 unfolding accepted_tables
 sign_report_accepts v n t table c d =
-    rw (← answer_tells_verdict (0 ∷ 0 ∷ 0 ∷ 0 ∷ []) (sign_verdict (sign.Done c)) (signs_of v n t table) d.answer)
+    rw (← answer_tells_verdict (0 ∷ 0 ∷ 0 ∷ 0 ∷ []) (sign_verdict (Ok c)) (signs_of v n t table) d.answer)
 
-pub accepted_by_report : (v n : ℕ) (t : List ℕ) (table : List ℤ) (r : SignAnswer) → accepted_tables v n t table ≡ true → SignDone v n t table r
-    → (c : SignCounts) × (r ≡ sign.Done c)
+pub accepted_by_report : (v n : ℕ) (t : List ℕ) (table : List ℤ) (r : Result SignCounts Refusal) → accepted_tables v n t table ≡ true → SignDone v n t table r
+    → (c : SignCounts) × (r ≡ Ok c)
 unfolding accepted_tables
-accepted_by_report v n t table (sign.Done c) a d = (c, refl)
-accepted_by_report v n t table (sign.Refused x) a d =
-    let e = answer_tells_verdict (0 ∷ 0 ∷ 0 ∷ 0 ∷ []) (sign_verdict (sign.Refused x)) (signs_of v n t table) d.answer in
+accepted_by_report v n t table (Ok c) a d = (c, refl)
+accepted_by_report v n t table (Err x) a d =
+    let e = answer_tells_verdict (0 ∷ 0 ∷ 0 ∷ 0 ∷ []) (sign_verdict (Err x)) (signs_of v n t table) d.answer in
     let f = rw (← e) at a in
     let z : ◌≡◌ {A = ℕ} 0 1 = cc in
     absurd (omega arith)
@@ -94,7 +90,7 @@ module _ (v n : ℕ) (t : List ℕ) (table : List ℤ) (accepts : accepted_table
   module _
       (vertices : List ℤ)
       (elements : List ℕ)
-      (r : ReadAnswer)
+      (r : Result ReadCounts Refusal)
       (vertices' : List ℤ)
       (elements' : List ℕ)
       (same : SameTables v n t table vertices elements r vertices' elements')
@@ -117,10 +113,10 @@ module _ (v n : ℕ) (t : List ℕ) (table : List ℤ) (accepts : accepted_table
 
 -- ---- its companions: a coordinate, a count and each record
 
-pub coordinate_reads_back : (z : ℤ) → in_range z ≡ true → coordinate_of (coordinate_text z) ≡ Thousandths z
+pub coordinate_reads_back : (z : ℤ) → in_range z ≡ true → coordinate_of (coordinate_text z) ≡ Ok z
 coordinate_reads_back = coordinate-back
 
-pub number_reads_back : (k : ℕ) → k < 10 ^ number_digits → number_of (decimal k) ≡ Of k
+pub number_reads_back : (k : ℕ) → k < 10 ^ number_digits → number_of (decimal k) ≡ Some k
 number_reads_back = number-back
 
 -- in every state that allows the line
@@ -129,7 +125,7 @@ pub vertex_reads_back : (rooms : Rooms) (v : ℕ) (x y z : ℤ) → in_range x �
     → LineBack rooms (reading v 0) (vertex_line x y z) (x ∷ y ∷ z ∷ []) [] (reading (v + 1) 0)
 vertex_reads_back rooms v x y z hx hy hz few room = (vertex_read rooms v x y z hx hy hz few room).back
 
-pub element_reads_back : (rooms : Rooms) (v n : ℕ) (r : List ℕ) → record_finding v r ≡ Clean
+pub element_reads_back : (rooms : Rooms) (v n : ℕ) (r : List ℕ) → record_finding v r ≡ Ok tt
     → v ≤ vertex_limit → n < element_limit → element_width * (n + 1) ≤ rooms.elements
     → LineBack rooms (reading v n) (element_line r) [] r (reading v (n + 1))
 element_reads_back rooms v n r clean few fewer room = (element_read rooms v n few fewer room r clean).back
@@ -146,11 +142,11 @@ module _
     (counts : ReadCounts)
     (vertices' : List ℤ)
     (elements' : List ℕ)
-    (done : ReadDone file vertices elements (read.Done counts) vertices' elements')
+    (done : ReadDone file vertices elements (Ok counts) vertices' elements')
   where
     -- the only fault of a record that was read is REPEAT
     pub read_records : (k : ℕ) → k < counts.elements
-        → record_finding counts.vertices (record_at elements' k) ≡ cond (distinct (used_of (record_at elements' k))) Clean (Found Repeat)
+        → record_finding counts.vertices (record_at elements' k) ≡ cond (distinct (used_of (record_at elements' k))) (Ok tt) (Err Repeat)
     read_records = read_finding file vertices elements counts vertices' elements' done
 
     module _
@@ -163,9 +159,9 @@ module _
             reads_back counts.vertices counts.elements elements' vertices' (read_sound file vertices elements counts vertices' elements' done apart) calls called
 
         -- with the lent tables as they were, the answer and both tables are those of the first reading
-        pub read_write_read : (r : ReadAnswer) (w : List ℤ) (e : List ℕ) → length (together counts.vertices counts.elements calls) ≤ file_limit
+        pub read_write_read : (r : Result ReadCounts Refusal) (w : List ℤ) (e : List ℕ) → length (together counts.vertices counts.elements calls) ≤ file_limit
             → ReadDone (together counts.vertices counts.elements calls) vertices elements r w e
-            → (r ≡ read.Done counts) × (w ≡ vertices') × (e ≡ elements')
+            → (r ≡ Ok counts) × (w ≡ vertices') × (e ≡ elements')
         read_write_read r w e short again =
             let c = accepted_counts file vertices elements counts vertices' elements' done in
             let first = accepted_stores file vertices elements counts vertices' elements' done in

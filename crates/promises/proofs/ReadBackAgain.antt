@@ -17,7 +17,7 @@ use Rattle.laws.specs.Lent.{laid}
 use Rattle.laws.proofs.TestLaws.{true-T, T_true}
 use Rattle.laws.proofs.EveryLaws.{every_index, none_follows}
 use Rattle.faults.specs.Refusals.{accepted}
-use Rattle.faults.specs.declared.Finding.TheVariants.{Clean, Found}
+use Rattle.std.specs.Prelude.{Ok, Err}
 use Rattle.faults.specs.declared.Fault.TheVariants.{Repeat}
 use Rattle.faults.proofs.Theorems.{answer_tells_verdict}
 use Rattle.volume.specs.Volume.{in_range}
@@ -30,7 +30,6 @@ use Rattle.format.specs.StoredRecords.{Stored, EachRecord}
 use Rattle.format.proofs.Theorems.{Counted}
 use Rattle.format.proofs.StoredRecordLaws.{records_ranged, file_stored}
 use Rattle.text.specs.Reading.{verdict_of, rooms_of, ReadDone}
-use Rattle.text.specs.declared.ReadAnswer.TheVariants as read
 use Rattle.text.specs.declared.ReadCounts.{ReadCounts}
 use Rattle.text.proofs.Theorems.{accepted_stores, accepted_counts}
 use Rattle.promises.proofs.ReadBackFile.{Ranged, vertex_at, Sound}
@@ -86,11 +85,11 @@ module _
     (counts : ReadCounts)
     (vertices' : List ℤ)
     (elements' : List ℕ)
-    (done : ReadDone file vertices elements (read.Done counts) vertices' elements')
+    (done : ReadDone file vertices elements (Ok counts) vertices' elements')
   where
     read_accepted : file_verdict (rooms_of vertices elements) file ≡ accepted (counts.vertices ∷ counts.elements ∷ [])
     unfolding verdict_of
-    read_accepted = sym (answer_tells_verdict (0 ∷ 0 ∷ []) (verdict_of (read.Done counts)) _ done.answer)
+    read_accepted = sym (answer_tells_verdict (0 ∷ 0 ∷ []) (verdict_of (Ok counts)) _ done.answer)
 
     records : EachRecord element_width (Stored counts.vertices) (records_from element_records start (lines_of file))
     records = file_stored (rooms_of vertices elements) counts.vertices counts.elements file read_accepted
@@ -145,7 +144,7 @@ module _
 
     -- the only fault of a record that was read is REPEAT
     pub read_finding : (k : ℕ) → k < counts.elements
-        → record_finding counts.vertices (record_at elements' k) ≡ cond (distinct (used_of (record_at elements' k))) Clean (Found Repeat)
+        → record_finding counts.vertices (record_at elements' k) ≡ cond (distinct (used_of (record_at elements' k))) (Ok tt) (Err Repeat)
     read_finding k h = by (distinct (used_of (record_at elements' k))) refl
       where
         r : List ℕ
@@ -163,6 +162,6 @@ module _
         unused : some not_zero (spare_of r) ≡ false
         unused = none_follows (eqb 0) not_zero (λ z b. rw (eq-eqb z 0 (sym (eqb→eq 0 z b)))) (spare_of r) s.unused
 
-        by : (b : Bool) → distinct (used_of r) ≡ b → record_finding counts.vertices r ≡ cond b Clean (Found Repeat)
+        by : (b : Bool) → distinct (used_of r) ≡ b → record_finding counts.vertices r ≡ cond b (Ok tt) (Err Repeat)
         by true e = sym (finding_clean counts.vertices r s.wide kind inside unused e)
         by false e = sym (finding_repeat counts.vertices r s.wide kind inside unused e)

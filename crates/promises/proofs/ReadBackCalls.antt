@@ -10,13 +10,15 @@ use lib.IntN.{ℤ, pos}
 use lib.ListN.{length, get_or, take, drop}
 use lib.Dec.{ltb, leb, leb→le, le→leb}
 use lib.Seq.{drop-drop, get_or-drop, get_or-take, take-append_seam}
+use Rattle.faults.specs.declared.Refusal.{Refusal}
+use Rattle.text.specs.declared.ReadCounts.{ReadCounts}
 use Rattle.limits.specs.Limits.{file_limit, vertex_limit, vertex_width, element_width}
 use Rattle.laws.specs.Words.{gather}
 use Rattle.laws.specs.Lent.{laid}
 use Rattle.laws.proofs.ListLaws.{gather_append}
 use Rattle.laws.proofs.EveryLaws.{every_implies}
 use Rattle.laws.proofs.TestLaws.{and_left, and_right, and_both}
-use Rattle.faults.specs.declared.Finding.TheVariants.{Clean}
+use Rattle.std.specs.Prelude.{Ok, Result}
 use Rattle.volume.specs.Volume.{point_at, point_in_range}
 use Rattle.volume.specs.declared.Point.{Point}
 use Rattle.volume.proofs.RangeLaws.{coordinates}
@@ -25,11 +27,11 @@ use Rattle.records.specs.WholeRecords.{is_number}
 use Rattle.records.proofs.RecordLaws.{clean_faultless, faultless_clean}
 use Rattle.signs.specs.Signs.{accepted_tables}
 use Rattle.signs.proofs.SignedLaws.{sign_accepted}
+use Rattle.faults.specs.declared.Refusal.{Refusal}
 use Rattle.format.specs.File.{start}
 use Rattle.format.specs.declared.ReaderState.{ReaderState}
+use Rattle.text.specs.declared.ReadCounts.{ReadCounts}
 use Rattle.text.specs.Reading.{rooms_of, verdict_of, ReadDone}
-use Rattle.text.specs.declared.ReadAnswer.{ReadAnswer}
-use Rattle.text.specs.declared.ReadAnswer.TheVariants as read
 use Rattle.text.proofs.Theorems.{read_unique}
 use Rattle.writing.specs.Written.{closed, vertex_line, element_line, end_line, vertex_lines, element_lines, after_lines, lines_from, file_lines, written_file}
 use Rattle.writing.proofs.Theorems as W
@@ -110,7 +112,7 @@ unfolding wrote bytes_of laid
 done-wrote text c d = rw (d.answer, d.buffer) (take-append_seam text (drop (length text) c.old))
 
 -- a record without a fault for v vertices has none for as many as there may be
-clean_more : (v : ℕ) (r : List ℕ) → v ≤ vertex_limit → record_finding v r ≡ Clean → record_finding vertex_limit r ≡ Clean
+clean_more : (v : ℕ) (r : List ℕ) → v ≤ vertex_limit → record_finding v r ≡ Ok tt → record_finding vertex_limit r ≡ Ok tt
 clean_more v r h e =
     let f = clean_faultless v r e in
     faultless_clean vertex_limit r
@@ -194,13 +196,13 @@ module _ (v n : ℕ) (t : List ℕ) (table : List ℤ) (sound : Sound v n t tabl
       (element_room : element_width * n ≤ length elements)
       (short : length (written_file table t v n) ≤ file_limit)
     where
-      expected : ReadDone (written_file table t v n) vertices elements (read.Done (record { vertices = v; elements = n })) (laid (take (vertex_width * v) table) vertices) (laid (take (element_width * n) t) elements)
+      expected : ReadDone (written_file table t v n) vertices elements (Ok (record { vertices = v; elements = n })) (laid (take (vertex_width * v) table) vertices) (laid (take (element_width * n) t) elements)
       unfolding verdict_of
       expected =
           let b = file-back (rooms_of vertices elements) v n t table sound vertex_room element_room short in
           record { answer = rw b.verdict; vertex_table = rw b.vertices; element_table = rw b.elements }
 
-      same_tables : (r : ReadAnswer) (vertices' : List ℤ) (elements' : List ℕ) → ReadDone (written_file table t v n) vertices elements r vertices' elements'
+      same_tables : (r : Result ReadCounts Refusal) (vertices' : List ℤ) (elements' : List ℕ) → ReadDone (written_file table t v n) vertices elements r vertices' elements'
           → SameTables v n t table vertices elements r vertices' elements'
       same_tables r vertices' elements' d =
           let u = read_unique (written_file table t v n) vertices elements r _ vertices' _ elements' _ d expected in

@@ -15,7 +15,7 @@ use Rattle.laws.specs.Pieces.{Pieces, rest, piece, split}
 use Rattle.laws.specs.Words.{gather}
 use Rattle.laws.proofs.PieceLaws.{Free, split-joined}
 use Rattle.faults.specs.Refusals.{accepted}
-use Rattle.faults.specs.declared.Finding.TheVariants.{Clean}
+use Rattle.std.specs.Prelude.{Ok}
 use Rattle.volume.specs.Volume.{in_range}
 use Rattle.records.specs.Record.{record_finding, record_at}
 use Rattle.format.specs.Line.{after}
@@ -154,7 +154,7 @@ pub record Sound (v n : ℕ) (t : List ℕ) (table : List ℤ) : Type 0 where
   pub vertex_room : vertex_width * v ≤ length table
   pub element_room : element_width * n ≤ length t
   pub ranged : (i : ℕ) → i < v → Ranged (vertex_at table i)
-  pub clean : (i : ℕ) → i < n → record_finding v (record_at t i) ≡ Clean
+  pub clean : (i : ℕ) → i < n → record_finding v (record_at t i) ≡ Ok tt
 
 three : (r : List ℤ) → length r ≡ vertex_width → get_or r 0 (pos 0) ∷ get_or r 1 (pos 0) ∷ get_or r 2 (pos 0) ∷ [] ≡ r
 three [] h = absurd (omega arith)
@@ -186,7 +186,7 @@ module _
         (table_read rooms vertex_lines vertex_width v (λ k. reading k 0) Ranged (λ r. r) (λ r. []) (λ x y. refl) (λ x y. refl) refl refl one_vertex v 0 table
         (omega arith) sound.vertex_room sound.ranged)
 
-    one_element : (k : ℕ) (r : List ℕ) → k < n → length r ≡ element_width → record_finding v r ≡ Clean
+    one_element : (k : ℕ) (r : List ℕ) → k < n → length r ≡ element_width → record_finding v r ≡ Ok tt
         → LinesRead rooms (reading v k) (element_lines (reading v k) r) [] r (reading v (k + 1))
     unfolding element_lines
     one_element k r h w g = one_read rooms (element_read rooms v k sound.vertices (omega (arith, sound.elements)) (omega arith) r g)
@@ -195,7 +195,7 @@ module _
     unfolding record_at
     all_elements =
         rw (zero-add n) at
-        (table_read rooms element_lines element_width n (λ k. reading v k) (λ r. record_finding v r ≡ Clean) (λ r. []) (λ r. r) (λ x y. refl) (λ x y. refl) refl refl
+        (table_read rooms element_lines element_width n (λ k. reading v k) (λ r. record_finding v r ≡ Ok tt) (λ r. []) (λ r. r) (λ x y. refl) (λ x y. refl) refl refl
         one_element n 0 t (omega arith) sound.element_room sound.clean)
 
     all_lines : LinesRead rooms start (file_lines table t v n) (take (vertex_width * v) table) (take (element_width * n) t) (ended v n)

@@ -9,11 +9,12 @@ use lib.Dec.{T, eqb, ltb, leb, eqb→eq, ltb→lt, leb→le}
 use lib.IntN.{ℤ}
 use lib.ListN.{length, get_or, replicate, length-append, length-map}
 use borrow.Author.Tests.{le-ltb, lt-leb, eq-eqb, ne_eqb}
+use Rattle.std.specs.Prelude.{Ok}
 use Rattle.limits.specs.Limits.{line_end, minus, vertex_limit, element_limit, vertex_width, element_width, corner_width, number_digits, mark_width}
 use Rattle.laws.specs.Words.{every}
 use Rattle.laws.proofs.PieceLaws.{Free}
 use Rattle.laws.proofs.TestLaws.{and_left, and_right}
-use Rattle.faults.specs.declared.Finding.TheVariants.{Clean}
+use Rattle.std.specs.Prelude.{Ok}
 use Rattle.volume.specs.Volume.{in_range}
 use Rattle.records.specs.Record.{kind_of, used_of, spare_of, is_kind, record_finding}
 use Rattle.records.specs.WholeRecords.{is_number}
@@ -25,7 +26,6 @@ use Rattle.format.specs.declared.Mark.{Mark}
 use Rattle.format.specs.declared.Mark.TheVariants.{Vx, Te, Py, Pz, Pr, Hx, En, Unknown}
 use Rattle.format.specs.declared.Role.{Role}
 use Rattle.format.specs.declared.Role.TheVariants.{VertexLine, ElementLine, EndLine}
-use Rattle.format.specs.declared.Judged.TheVariants.{Passed}
 use Rattle.format.specs.declared.ReaderState.{ReaderState}
 use Rattle.format.specs.declared.Rooms.{Rooms}
 use Rattle.format.specs.GoodFields.{Good, Each, spaced}
@@ -117,7 +117,7 @@ module _ (rooms : Rooms) (v : ℕ) (x y z : ℤ) (hx : in_range x ≡ true) (hy 
 
 -- ---- an element
 
-decimal-field : (state : ReaderState) (role : Role) (k : ℕ) → field_verdict state role (decimal k) ≡ Passed → Good state role (decimal k)
+decimal-field : (state : ReaderState) (role : Role) (k : ℕ) → field_verdict state role (decimal k) ≡ Ok tt → Good state role (decimal k)
 decimal-field state role k h = record { some = decimal-some k; plain = free_above minus (decimal k) (λ b q. decimal_free b (omega arith) k); passes = h }
 
 -- a vertex number between 1 and v
@@ -213,7 +213,7 @@ module _ (rooms : Rooms) (v e : ℕ) (few_vertices : v ≤ vertex_limit) (few : 
       (element_added g mark.plain ∙ rw (number-values v few_vertices used inside, zeros_are (corner_width - wants (mark_of_kind kind)) zs k zeros, mark.counted))
 
   -- TE, PY, PR or HX adds the record that it was written from
-  pub element_read : (r : List ℕ) → record_finding v r ≡ Clean → LineRead rooms (reading v e) (element_line r) [] r (reading v (e + 1))
+  pub element_read : (r : List ℕ) → record_finding v r ≡ Ok tt → LineRead rooms (reading v e) (element_line r) [] r (reading v (e + 1))
   unfolding element_line
   element_read r clean =
       let f = clean_faultless v r clean in

@@ -9,14 +9,13 @@ use lib.Dec.{eqb, ltb}
 use lib.IntN.{ℤ, pos, negsuc, nat_abs}
 use lib.ListN.{length, get_or, length-append, get_or-append}
 use borrow.Author.Tests.{le-leb, ltb-true, ltb-false, ne_eqb}
+use Rattle.std.specs.Prelude.{Some, Ok}
 use Rattle.limits.specs.Limits.{comma, minus, point, digit0, digit9, coordinate_limit, number_digits}
 use Rattle.laws.specs.Pieces.{split}
 use Rattle.laws.proofs.PieceLaws.{Free, split-joined, split_free}
 use Rattle.volume.specs.Volume.{in_range}
 use Rattle.volume.proofs.RangeLaws.{in_range_within}
 use Rattle.format.specs.Number.{digit_of, appended, spelt, whole, decimals, signed, millimetres, unsigned, coordinate_of, thousandths_of, number_of, value_of}
-use Rattle.format.specs.declared.Spelt.TheVariants.{Of}
-use Rattle.format.specs.declared.Coordinate.TheVariants.{Thousandths}
 use Rattle.format.proofs.NumberLaws.{spelt_append}
 use Rattle.writing.specs.Written.{digit, digits_of, decimal, sign_of, millimetres_of, coordinate_text}
 use Rattle.writing.proofs.DecimalLaws.{digits-short, tenth, decimal-digits}
@@ -63,26 +62,26 @@ decimal-some k = digits-some k k
 
 -- ---- what digits spell
 
-appended-digit : (n d : ℕ) → d < 10 → appended n (digit d) ≡ Of (n * 10 + d)
+appended-digit : (n d : ℕ) → d < 10 → appended n (digit d) ≡ Some (n * 10 + d)
 unfolding appended digit_of
 appended-digit n d h =
     let e : digit d - digit0 ≡ d = omega arith in
     rw (le-leb digit0 (digit d) (omega arith), le-leb (digit d) digit9 (omega arith), e)
 
-one_spelt : (n d : ℕ) → d < 10 → spelt n (digit d ∷ []) ≡ Of (n * 10 + d)
+one_spelt : (n d : ℕ) → d < 10 → spelt n (digit d ∷ []) ≡ Some (n * 10 + d)
 unfolding spelt
 one_spelt n d h = rw (appended-digit n d h)
 
-digits-spelt : (f k : ℕ) → k < 10 ^ suc f → spelt 0 (digits_of (suc f) k) ≡ Of k
+digits-spelt : (f k : ℕ) → k < 10 ^ suc f → spelt 0 (digits_of (suc f) k) ≡ Some k
 unfolding digits_of
 digits-spelt zero k h =
-    either (λ (l : List ℕ). spelt 0 l ≡ Of k) k (digit k ∷ []) _ (λ l. one_spelt 0 k l ∙ ap Of (omega arith)) (λ l. absurd (omega arith))
+    either (λ (l : List ℕ). spelt 0 l ≡ Some k) k (digit k ∷ []) _ (λ l. one_spelt 0 k l ∙ ap Some (omega arith)) (λ l. absurd (omega arith))
 digits-spelt (suc f) k h =
-    either (λ (l : List ℕ). spelt 0 l ≡ Of k) k (digit k ∷ []) (digits_of (suc f) (k / 10) ++ (digit (k % 10) ∷ []))
-    (λ l. one_spelt 0 k l ∙ ap Of (omega arith))
+    either (λ (l : List ℕ). spelt 0 l ≡ Some k) k (digit k ∷ []) (digits_of (suc f) (k / 10) ++ (digit (k % 10) ∷ []))
+    (λ l. one_spelt 0 k l ∙ ap Some (omega arith))
     (λ l.
     spelt_append 0 (digits_of (suc f) (k / 10)) (digit (k % 10) ∷ [])
-    ∙ rw (digits-spelt f (k / 10) (tenth (suc f) k h)) (one_spelt (k / 10) (k % 10) (omega arith) ∙ ap Of (omega arith)))
+    ∙ rw (digits-spelt f (k / 10) (tenth (suc f) k h)) (one_spelt (k / 10) (k % 10) (omega arith) ∙ ap Some (omega arith)))
 
 -- the first digit is 0 in 0 alone
 digits-first : (f k : ℕ) → 0 < k → k < 10 ^ suc f → get_or (digits_of (suc f) k) 0 0 ≡ digit0 → ⊥
@@ -96,11 +95,11 @@ digits-first (suc f) k z h =
     rw (get_or-append (digits_of (suc f) (k / 10)) (digit (k % 10) ∷ []) 0 0 (digits-some f (k / 10)))
     (digits-first f (k / 10) (omega arith) (tenth (suc f) k h)))
 
-zero-whole : (f : ℕ) → whole (suc f) (digits_of (suc f) 0) ≡ Of 0
+zero-whole : (f : ℕ) → whole (suc f) (digits_of (suc f) 0) ≡ Some 0
 unfolding digits_of whole
 zero-whole f = refl
 
-more_whole : (f k : ℕ) → 0 < k → k < 10 ^ suc f → whole (suc f) (digits_of (suc f) k) ≡ Of k
+more_whole : (f k : ℕ) → 0 < k → k < 10 ^ suc f → whole (suc f) (digits_of (suc f) k) ≡ Some k
 unfolding whole
 more_whole f k z h =
     let l = digits_of (suc f) k in
@@ -109,13 +108,13 @@ more_whole f k z h =
     (digits-spelt f k h)
 
 -- a number with at most f + 1 digits reads back where so many are allowed
-pub decimal-whole : (f k : ℕ) → k < 10 ^ suc f → whole (suc f) (decimal k) ≡ Of k
+pub decimal-whole : (f k : ℕ) → k < 10 ^ suc f → whole (suc f) (decimal k) ≡ Some k
 decimal-whole f zero h = rw (decimal-digits f 0 h) (zero-whole f)
 decimal-whole f (suc k) h = rw (decimal-digits f (suc k) h) (more_whole f (suc k) (omega arith) h)
 
 -- ---- a vertex number or count
 
-pub number-back : (k : ℕ) → k < 10 ^ number_digits → number_of (decimal k) ≡ Of k
+pub number-back : (k : ℕ) → k < 10 ^ number_digits → number_of (decimal k) ≡ Some k
 unfolding number_of
 number-back k h = decimal-whole 3 k h
 
@@ -132,17 +131,17 @@ thirds m = digit (m / 100 % 10) ∷ digit (m / 10 % 10) ∷ digit (m % 10) ∷ [
 thirds_free : (b m : ℕ) → b < digit0 → Free b (thirds m)
 thirds_free b m h = (λ e. omega arith, (λ e. omega arith, (λ e. omega arith, tt)))
 
-decimals-back : (m : ℕ) → decimals (thirds m) ≡ Of (m % 1000)
+decimals-back : (m : ℕ) → decimals (thirds m) ≡ Some (m % 1000)
 unfolding decimals spelt
 decimals-back m =
     rw (appended-digit 0 (m / 100 % 10) (omega arith), appended-digit _ (m / 10 % 10) (omega arith), appended-digit _ (m % 10) (omega arith))
-    (ap Of (omega arith))
+    (ap Some (omega arith))
 
 millimetres_free : (b m : ℕ) → b < digit0 → (point ≡ b → ⊥) → Free b (millimetres_of m)
 unfolding millimetres_of
 millimetres_free b m h n = free_append b (decimal (m / 1000)) (point ∷ thirds m) (decimal_free b h (m / 1000)) (n, thirds_free b m h)
 
-unsigned_back : (neg : Bool) (m : ℕ) → m ≤ coordinate_limit → unsigned neg (split point (millimetres_of m)) ≡ Thousandths (signed neg m)
+unsigned_back : (neg : Bool) (m : ℕ) → m ≤ coordinate_limit → unsigned neg (split point (millimetres_of m)) ≡ Ok (signed neg m)
 unfolding unsigned millimetres millimetres_of
 unsigned_back neg m h =
     let e : m / 1000 * 1000 + m % 1000 ≡ m = omega arith in
@@ -173,14 +172,14 @@ plus_first : (m : ℕ) → eqb (get_or (millimetres_of m) 0 0) minus ≡ false
 unfolding millimetres_of
 plus_first m = first-not minus (decimal (m / 1000)) (point ∷ thirds m) (decimal-some (m / 1000)) (decimal_free minus (omega arith) (m / 1000))
 
-back : (z : ℤ) → nat_abs z ≤ coordinate_limit → coordinate_of (coordinate_text z) ≡ Thousandths z
+back : (z : ℤ) → nat_abs z ≤ coordinate_limit → coordinate_of (coordinate_text z) ≡ Ok z
 unfolding coordinate_of coordinate_text sign_of
 back (pos n) h =
     rw (split_free comma (millimetres_of n) (no-comma (pos n)), plus_first n) (unsigned_back false n h)
 back (negsuc n) h =
     rw (split_free comma (minus ∷ millimetres_of (suc n)) (no-comma (negsuc n))) (unsigned_back true (suc n) h)
 
-pub coordinate-back : (z : ℤ) → in_range z ≡ true → coordinate_of (coordinate_text z) ≡ Thousandths z
+pub coordinate-back : (z : ℤ) → in_range z ≡ true → coordinate_of (coordinate_text z) ≡ Ok z
 coordinate-back z h = back z (in_range_within z h).abs
 
 pub thousandths_back : (z : ℤ) → in_range z ≡ true → thousandths_of (coordinate_text z) ≡ z

@@ -7,7 +7,9 @@ use mathlib.Core.List.{List, [], ◌∷◌}
 use native.Mathlib.Omega.{arith}
 use borrow.Author.Tests.{ne_eqb}
 use lib.Dec.{eqb, leb, ltb}
+use lib.IntN.{ℤ}
 use lib.ListN.{length, get_or, drop}
+use Rattle.std.specs.Prelude.{Option, Some, None, Result, Ok, Err}
 use Rattle.laws.specs.Pieces.{Pieces, rest, piece, split}
 use Rattle.faults.specs.declared.Fault.{Fault}
 use Rattle.faults.specs.declared.Fault.TheVariants as fault
@@ -20,16 +22,8 @@ use Rattle.format.specs.Line.{mark_of, role_of, wants, fields_of, judge_coordina
 use Rattle.format.specs.File.{start, lines_of, at_end, onward, file_from, file_verdict}
 use Rattle.format.specs.declared.Role.{Role}
 use Rattle.format.specs.declared.Role.TheVariants.{VertexLine, ElementLine, EndLine, UnknownLine}
-use Rattle.format.specs.declared.Spelt.{Spelt}
-use Rattle.format.specs.declared.Spelt.TheVariants.{Of, Not}
-use Rattle.format.specs.declared.Coordinate.{Coordinate}
-use Rattle.format.specs.declared.Coordinate.TheVariants.{Thousandths, Wrong}
-use Rattle.format.specs.declared.Judged.{Judged}
-use Rattle.format.specs.declared.Judged.TheVariants.{Passed, Failed}
 use Rattle.format.specs.declared.ReaderState.{ReaderState}
 use Rattle.format.specs.declared.Rooms.{Rooms}
-use Rattle.format.specs.declared.Line.{Line}
-use Rattle.format.specs.declared.Line.TheVariants.{Next, No}
 use Rattle.faults.specs.Spots.{spot_of, refuser_of}
 use Rattle.faults.specs.declared.Refuser.TheVariants.{Reading}
 use Rattle.faults.specs.declared.Spot.TheVariants as spot
@@ -39,17 +33,17 @@ abbrev OfReading : Fault → Type 0
 OfReading f = refuser_of f ≡ Reading
 
 -- what a field, a line and a file may name
-abbrev InField : Coordinate → Type 0
-InField (Thousandths z) = Unit {0}
-InField (Wrong f) = OfReading f
+abbrev InField : Result ℤ Fault → Type 0
+InField (Ok z) = Unit {0}
+InField (Err f) = OfReading f
 
-abbrev InFields : Judged → Type 0
-InFields Passed = Unit {0}
-InFields (Failed f) = OfReading f
+abbrev InFields : Result (Unit {0}) Fault → Type 0
+InFields (Ok tt) = Unit {0}
+InFields (Err f) = OfReading f
 
-abbrev InLine : Line → Type 0
-InLine (Next state) = Unit {0}
-InLine (No f) = OfReading f
+abbrev InLine : Result ReaderState Fault → Type 0
+InLine (Ok state) = Unit {0}
+InLine (Err f) = OfReading f
 
 -- a fault of reading, at a line
 record AtLine (r : Refusal) : Type 0 where
@@ -66,37 +60,37 @@ choice : {A : Type 0} (P : A → Type 0) (b : Bool) (x y : A) → P x → P y �
 choice P true x y p q = p
 choice P false x y p q = q
 
-millimetres_in : (neg : Bool) (w f : Spelt) → InField (millimetres neg w f)
+millimetres_in : (neg : Bool) (w f : Option ℕ) → InField (millimetres neg w f)
 unfolding millimetres
-millimetres_in neg (Of w) (Of f) =
-    choice InField (leb (w * 1000 + f) limits.coordinate_limit) (Thousandths (number.signed neg (w * 1000 + f))) (Wrong fault.Range) tt refl
-millimetres_in neg (Of w) Not = refl
-millimetres_in neg Not (Of f) = refl
-millimetres_in neg Not Not = refl
+millimetres_in neg (Some w) (Some f) =
+    choice InField (leb (w * 1000 + f) limits.coordinate_limit) (Ok (number.signed neg (w * 1000 + f))) (Err fault.Range) tt refl
+millimetres_in neg (Some w) None = refl
+millimetres_in neg None (Some f) = refl
+millimetres_in neg None None = refl
 
 unsigned_in : (neg : Bool) (p : Pieces) → InField (unsigned neg p)
 unfolding unsigned
-unsigned_in neg (rest w) = millimetres_in neg (whole limits.whole_digits w) (Of 0)
+unsigned_in neg (rest w) = millimetres_in neg (whole limits.whole_digits w) (Some 0)
 unsigned_in neg (piece w (rest f)) = millimetres_in neg (whole limits.whole_digits w) (decimals f)
 unsigned_in neg (piece w (piece f p)) = refl
 
 coordinate_in : (l : List ℕ) → InField (coordinate_of l)
 unfolding coordinate_of
 coordinate_in l =
-    choice InField (cut (split limits.comma l)) (Wrong fault.Comma) _ refl
+    choice InField (cut (split limits.comma l)) (Err fault.Comma) _ refl
     (choice InField (eqb (get_or l 0 0) limits.minus) _ _ (unsigned_in true (split limits.point (drop 1 l))) (unsigned_in false (split limits.point l)))
 
-judged-coordinate : (c : Coordinate) → InField c → InFields (judge_coordinate c)
-judged-coordinate (Thousandths z) h = tt
-judged-coordinate (Wrong f) h = h
+judged-coordinate : (c : Result ℤ Fault) → InField c → InFields (judge_coordinate c)
+judged-coordinate (Ok z) h = tt
+judged-coordinate (Err f) h = h
 
-judged-count : (s : Spelt) → InFields (judge_count s)
-judged-count (Of n) = tt
-judged-count Not = refl
+judged-count : (s : Option ℕ) → InFields (judge_count s)
+judged-count (Some n) = tt
+judged-count None = refl
 
-judged-vertex : (count : ℕ) (s : Spelt) → InFields (judge_vertex count s)
-judged-vertex count (Of n) = choice InFields (eqb n 0) (Failed fault.Vertex) _ refl (choice InFields (ltb count n) (Failed fault.Vertex) Passed refl tt)
-judged-vertex count Not = refl
+judged-vertex : (count : ℕ) (s : Option ℕ) → InFields (judge_vertex count s)
+judged-vertex count (Some n) = choice InFields (eqb n 0) (Err fault.Vertex) _ refl (choice InFields (ltb count n) (Err fault.Vertex) (Ok tt) refl tt)
+judged-vertex count None = refl
 
 field_in : (state : ReaderState) (role : Role) (l : List ℕ) → InFields (field_verdict state role l)
 unfolding field_verdict
@@ -105,9 +99,9 @@ field_in state ElementLine l = judged-vertex state.vertices (number.number_of l)
 field_in state EndLine l = judged-count (number.number_of l)
 field_in state UnknownLine l = tt
 
-first_in : (j k : Judged) → InFields j → InFields k → InFields (first j k)
-first_in Passed k h g = g
-first_in (Failed f) k h g = h
+first_in : (j k : Result (Unit {0}) Fault) → InFields j → InFields k → InFields (first j k)
+first_in (Ok tt) k h g = g
+first_in (Err f) k h g = h
 
 fields_in : (state : ReaderState) (role : Role) (p : Pieces) → InFields (fields_verdict state role p)
 unfolding fields_verdict
@@ -117,12 +111,12 @@ fields_in state role (piece l p) =
 
 -- ---- a line
 
-given_in : (b : Bool) (f : Fault) (next : Line) → OfReading f → InLine next → InLine (given b f next)
-given_in b f next h g = choice InLine b (No f) next h g
+given_in : (b : Bool) (f : Fault) (next : Result ReaderState Fault) → OfReading f → InLine next → InLine (given b f next)
+given_in b f next h g = choice InLine b (Err f) next h g
 
-judged_in : (j : Judged) (next : Line) → InFields j → InLine next → InLine (judged j next)
-judged_in Passed next h g = g
-judged_in (Failed f) next h g = h
+judged_in : (j : Result (Unit {0}) Fault) (next : Result ReaderState Fault) → InFields j → InLine next → InLine (judged j next)
+judged_in (Ok tt) next h g = g
+judged_in (Err f) next h g = h
 
 line_in : (rooms : Rooms) (state : ReaderState) (closed : Bool) (l : List ℕ) → InLine (line_verdict rooms state closed l)
 unfolding line_verdict
@@ -142,10 +136,10 @@ end_in : (state : ReaderState) (n : ℕ) → 0 < n → InLines (at_end state n)
 unfolding at_end
 end_in state n h = choice InLines state.ended _ _ tt (record { fault = refl; line = h })
 
-onward_in : (line : Line) (n : ℕ) (next : ReaderState → Verdict (List ℕ)) → 0 < n → InLine line → ((s : ReaderState) → InLines (next s))
+onward_in : (line : Result ReaderState Fault) (n : ℕ) (next : ReaderState → Verdict (List ℕ)) → 0 < n → InLine line → ((s : ReaderState) → InLines (next s))
     → InLines (onward line n next)
-onward_in (Next state) n next h g k = k state
-onward_in (No f) n next h g k = record { fault = g; line = h }
+onward_in (Ok state) n next h g k = k state
+onward_in (Err f) n next h g k = record { fault = g; line = h }
 
 lines_in : (rooms : Rooms) (state : ReaderState) (n : ℕ) (p : Pieces) → 0 < n → InLines (file_from rooms state n p)
 unfolding file_from

@@ -9,6 +9,9 @@ use native.Mathlib.Omega.{arith}
 use lib.Dec.{T, eqb, ltb, eqb→eq}
 use lib.IntN.{ℤ}
 use lib.ListN.{length, length-map}
+use Rattle.mesh.specs.declared.CutCounts.{CutCounts}
+use Rattle.signs.specs.declared.SignCounts.{SignCounts}
+use Rattle.std.specs.Prelude.{Result}
 use borrow.Author.Tests.{eq-eqb, ltb-true, ltb-false}
 use Rattle.limits.specs.Limits.{element_limit, tetrahedron_width, vertex_limit, element_width}
 use Rattle.laws.specs.Words.{count, every, some, among, distinct}
@@ -16,7 +19,8 @@ use Rattle.laws.specs.Lent.{laid}
 use Rattle.laws.proofs.TestLaws.{and_left, and_right, and_both, or_cases, or_left, or_right}
 use Rattle.laws.proofs.SearchLaws.{least_cong, least-most}
 use Rattle.faults.specs.declared.Fault.TheVariants.{Many, Room}
-use Rattle.faults.specs.declared.Finding.{Finding}
+use Rattle.std.specs.Prelude.{Result}
+use Rattle.faults.specs.declared.Fault.{Fault}
 use Rattle.faults.specs.declared.Refusal.{Refusal}
 use Rattle.faults.specs.Refusals.{Verdict, accepted, refused, refuse, refuse_pair, refuse_if, and_then, records_of, answer_of}
 use Rattle.solids.specs.declared.Solid.{Solid}
@@ -32,9 +36,6 @@ use Rattle.solids.proofs.Theorems.{proper-relisted, relisting_fitting, relisting
 use Rattle.records.specs.Record.{used_of, element_of, record_finding, record_at, element_at, first_elements}
 use Rattle.tables.specs.JudgedRecords.{is_fault, fault_in, bad_record}
 use Rattle.judging.specs.Judge.{pair_fits, misfit, bad_element, judged, JudgeDone}
-use Rattle.judging.specs.declared.JudgeAnswer.{JudgeAnswer}
-use Rattle.mesh.specs.declared.CutAnswer.{CutAnswer}
-use Rattle.signs.specs.declared.SignAnswer.{SignAnswer}
 use Rattle.mesh.specs.Cutting.{flat, cut_of, CutDone}
 use Rattle.vertices.specs.Vertices.{vertices_judged}
 use Rattle.signs.specs.Signs.{sound, sign_counts, signs_of, SignDone, is_accepted}
@@ -206,7 +207,7 @@ module _ (v n : ℕ) where
         ≡ refuse (fault_in (record_finding v (record_at t (pred (bad_record v t n))))) (bad_record v t n)
     record_refusal h =
         ap (λ (k : ℕ). refuse (fault_in (record_finding v (record_at t' (pred k)))) k) bad_record_alike
-        ∙ ap (λ (f : Finding). refuse (fault_in f) (bad_record v t n)) (finding_alike (pred (bad_record v t n)) (bad_record_below h))
+        ∙ ap (λ (f : Result (Unit {0}) Fault). refuse (fault_in f) (bad_record v t n)) (finding_alike (pred (bad_record v t n)) (bad_record_below h))
 
     -- where no record is at fault, the first pair that does not fit is the same
     module _ (all : T (every proper (first_elements t n))) where
@@ -296,10 +297,10 @@ module _ (v n : ℕ) where
     relisted-refused x e = refused_plainly (judged v n t') x (relisted-verdict ∙ ap (λ (y : Verdict (List Element)). and_then y (λ es. accepted [])) e)
 
     -- what a contract allows for the one table, it allows for the other
-    pub relisted_judge_done : (r : JudgeAnswer) → JudgeDone v n t r → JudgeDone v n t' r
+    pub relisted_judge_done : (r : Result (Unit {0}) Refusal) → JudgeDone v n t r → JudgeDone v n t' r
     relisted_judge_done r d = record { answer = d.answer ∙ ap (answer_of []) (sym relisted-verdict) }
 
-    pub relisted_cut_done : (old : List ℕ) (r : CutAnswer) (new : List ℕ) → CutDone v n t old r new → CutDone v n t' old r new
+    pub relisted_cut_done : (old : List ℕ) (r : Result CutCounts Refusal) (new : List ℕ) → CutDone v n t old r new → CutDone v n t' old r new
     relisted_cut_done old r new d =
         let e : cut_of v n t (length old) ≡ cut_of v n t' (length old) = sym (relisted-cut (length old)) in
         record {
@@ -307,5 +308,5 @@ module _ (v n : ℕ) where
           output = d.output ∙ ap (λ (x : Verdict (List (Tet Vertex))). laid (records_of flat x) old) e;
         }
 
-    pub relisted_sign_done : (table : List ℤ) (r : SignAnswer) → SignDone v n t table r → SignDone v n t' table r
+    pub relisted_sign_done : (table : List ℤ) (r : Result SignCounts Refusal) → SignDone v n t table r → SignDone v n t' table r
     relisted_sign_done table r d = record { answer = d.answer ∙ ap (answer_of (0 ∷ 0 ∷ 0 ∷ 0 ∷ [])) (sym (relisted_signs table)) }

@@ -15,7 +15,7 @@ use Rattle.laws.specs.Lent.{laid}
 use Rattle.laws.proofs.TestLaws.{and_left, and_right, true-T}
 use Rattle.laws.proofs.EveryLaws.{every_index, every_implies}
 use Rattle.faults.specs.declared.Fault.TheVariants.{Room}
-use Rattle.faults.specs.declared.Finding.TheVariants.{Clean}
+use Rattle.std.specs.Prelude.{Ok}
 use Rattle.faults.specs.Refusals.{accepted, refuse, refuse_if, and_then}
 use Rattle.solids.specs.Solids.{Vertex, Tet, Element}
 use Rattle.solids.specs.Cut.{cut_mesh}
@@ -79,10 +79,10 @@ module _ (n : ℕ) (σ t t' : List ℕ) (w : TableReordered n σ t t') where
   order-elements : T (is_order (length (first_elements t n)) σ)
   order-elements = subst (λ (m : ℕ). T (is_order m σ)) (sym (first-length t n)) w.order
 
-  clean_there : (v : ℕ) → ((k : ℕ) → k < n → record_finding v (record_at t k) ≡ Clean) → (k : ℕ) → k < n → record_finding v (record_at t' k) ≡ Clean
+  clean_there : (v : ℕ) → ((k : ℕ) → k < n → record_finding v (record_at t k) ≡ Ok tt) → (k : ℕ) → k < n → record_finding v (record_at t' k) ≡ Ok tt
   clean_there v c k h = ap (record_finding v) (w.each k h) ∙ c (get_or σ k 0) (order-at n σ w.order k h)
 
-  clean_home : (v : ℕ) → ((k : ℕ) → k < n → record_finding v (record_at t' k) ≡ Clean) → (k : ℕ) → k < n → record_finding v (record_at t k) ≡ Clean
+  clean_home : (v : ℕ) → ((k : ℕ) → k < n → record_finding v (record_at t' k) ≡ Ok tt) → (k : ℕ) → k < n → record_finding v (record_at t k) ≡ Ok tt
   clean_home v c k h =
       let r = order_from n σ w.order k h in
       ap (λ (i : ℕ). record_finding v (record_at t i)) (sym r.2) ∙ ap (record_finding v) (sym (w.each r.0 r.1)) ∙ c r.0 r.1

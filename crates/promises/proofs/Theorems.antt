@@ -10,6 +10,7 @@ use Prim.Native.Nat.{ℕ, ◌+◌, ◌*◌, ◌≤◌, ◌<◌}
 use lib.Dec.{T, ltb}
 use lib.IntN.{ℤ}
 use lib.ListN.{length, get_or}
+use Rattle.std.specs.Prelude.{Result, Ok}
 use Rattle.limits.specs.Limits.{file_limit, element_limit, element_width}
 use Rattle.laws.specs.Words.{every, among}
 use Rattle.laws.specs.Lent.{laid}
@@ -29,14 +30,8 @@ use Rattle.solids.proofs.Theorems.{again_cut}
 use Rattle.records.specs.Record.{kind_of, used_of, solid_of, element_of, record_finding, record_at, element_at, first_elements}
 use Rattle.records.specs.WholeRecords.{is_number, Whole, WholeTable}
 use Rattle.records.proofs.Theorems.{whole-proper}
-use Rattle.judging.specs.declared.JudgeAnswer.{JudgeAnswer}
-use Rattle.judging.specs.declared.JudgeAnswer.TheVariants as judge
 use Rattle.mesh.specs.declared.CutCounts.{CutCounts}
-use Rattle.mesh.specs.declared.CutAnswer.{CutAnswer}
-use Rattle.mesh.specs.declared.CutAnswer.TheVariants as answer
 use Rattle.signs.specs.declared.SignCounts.{SignCounts}
-use Rattle.signs.specs.declared.SignAnswer.{SignAnswer}
-use Rattle.signs.specs.declared.SignAnswer.TheVariants as sign
 use Rattle.judging.specs.Judge.{judged, JudgeDone}
 use Rattle.mesh.specs.Cutting.{flat, cut_of, CutDone}
 use Rattle.signs.specs.Signs.{SignDone, is_accepted}
@@ -59,15 +54,15 @@ use Rattle.promises.proofs.SurfaceOfTables as SurfaceOfTables
 
 -- ---- the output: a done answer counts the cut of the table's elements, and its tetrahedra stand in the lent memory
 
-pub output-judged : (v n : ℕ) (t old : List ℕ) (c : CutCounts) (new : List ℕ) → CutDone v n t old (answer.Done c) new
+pub output-judged : (v n : ℕ) (t old : List ℕ) (c : CutCounts) (new : List ℕ) → CutDone v n t old (Ok c) new
     → judged v n t ≡ accepted (first_elements t n)
 output-judged v n t old c new d = (AnswerLaws.answer-done v n t old c.tetrahedra new d).cuts.elements
 
-pub output-count : (v n : ℕ) (t old : List ℕ) (c : CutCounts) (new : List ℕ) → CutDone v n t old (answer.Done c) new
+pub output-count : (v n : ℕ) (t old : List ℕ) (c : CutCounts) (new : List ℕ) → CutDone v n t old (Ok c) new
     → c.tetrahedra ≡ length (cut_mesh (first_elements t n))
 output-count v n t old c new d = (AnswerLaws.answer-done v n t old c.tetrahedra new d).many
 
-pub output_is_cut : (v n : ℕ) (t old : List ℕ) (c : CutCounts) (new : List ℕ) → CutDone v n t old (answer.Done c) new
+pub output_is_cut : (v n : ℕ) (t old : List ℕ) (c : CutCounts) (new : List ℕ) → CutDone v n t old (Ok c) new
     → tetrahedra_in c.tetrahedra new ≡ cut_mesh (first_elements t n)
 output_is_cut v n t old c new d = AnswerLaws.done_tetrahedra v n t old c.tetrahedra new (AnswerLaws.answer-done v n t old c.tetrahedra new d)
 
@@ -77,7 +72,7 @@ pub table-surface : (v n : ℕ) (t : List ℕ) (es : List Element) → judged v 
 table-surface v n t es e = SurfaceOfTables.surface_is_cut es (accepted-surface v n t es e)
 
 -- and of the numbers that a done cut leaves in lent memory
-pub output-surface : (v n : ℕ) (t old : List ℕ) (c : CutCounts) (new : List ℕ) → CutDone v n t old (answer.Done c) new
+pub output-surface : (v n : ℕ) (t old : List ℕ) (c : CutCounts) (new : List ℕ) → CutDone v n t old (Ok c) new
     → SurfaceIsCut (first_elements t n) (tetrahedra_in c.tetrahedra new)
 output-surface v n t old c new d = SurfaceOfTables.done-surface v n t old c.tetrahedra new (AnswerLaws.answer-done v n t old c.tetrahedra new d)
 
@@ -115,14 +110,14 @@ pub relisted-cut : (v n : ℕ) (t t' : List ℕ) → TableRelisted n t t' → (r
 relisted-cut = RelistedTables.relisted-cut
 
 -- of the functions: `judge_mesh`, `cut_mesh` and `sign_report` answer the same and leave the same memory
-pub relisted_judge_mesh : (v n : ℕ) (t t' : List ℕ) → TableRelisted n t t' → (r s : JudgeAnswer) → JudgeDone v n t r → JudgeDone v n t' s → r ≡ s
+pub relisted_judge_mesh : (v n : ℕ) (t t' : List ℕ) → TableRelisted n t t' → (r s : Result (Unit {0}) Refusal) → JudgeDone v n t r → JudgeDone v n t' s → r ≡ s
 relisted_judge_mesh v n t t' w r s p q = judge_unique v n t' r s (RelistedTables.relisted_judge_done v n t t' w r p) q
 
-pub relisted_cut_mesh : (v n : ℕ) (t t' : List ℕ) → TableRelisted n t t' → (old : List ℕ) (r s : CutAnswer) (new new' : List ℕ)
+pub relisted_cut_mesh : (v n : ℕ) (t t' : List ℕ) → TableRelisted n t t' → (old : List ℕ) (r s : Result CutCounts Refusal) (new new' : List ℕ)
     → CutDone v n t old r new → CutDone v n t' old s new' → (r ≡ s) × (new ≡ new')
 relisted_cut_mesh v n t t' w old r s new new' p q = cut_unique v n t' old r s new new' (RelistedTables.relisted_cut_done v n t t' w old r new p) q
 
-pub relisted_sign_report : (v n : ℕ) (t t' : List ℕ) → TableRelisted n t t' → (table : List ℤ) (r s : SignAnswer)
+pub relisted_sign_report : (v n : ℕ) (t t' : List ℕ) → TableRelisted n t t' → (table : List ℤ) (r s : Result SignCounts Refusal)
     → SignDone v n t table r → SignDone v n t' table s → r ≡ s
 relisted_sign_report v n t t' w table r s p q = sign_unique v n t' table r s (RelistedTables.relisted_sign_done v n t t' w table r p) q
 
@@ -142,33 +137,33 @@ pub reordered-cut : (v n : ℕ) (σ t t' : List ℕ) → TableReordered n σ t t
 reordered-cut v n σ t t' w es e room = ReorderedTables.reordered_blocks n σ t t' w v es e room
 
 -- of the functions: `judge_mesh` and `cut_mesh` are done with the one table exactly if they are with the other
-pub reordered_judge_mesh : (v n : ℕ) (σ t t' : List ℕ) → TableReordered n σ t t' → (r s : JudgeAnswer) → JudgeDone v n t r → JudgeDone v n t' s
-    → (r ≡ judge.Done → s ≡ judge.Done) × (s ≡ judge.Done → r ≡ judge.Done)
+pub reordered_judge_mesh : (v n : ℕ) (σ t t' : List ℕ) → TableReordered n σ t t' → (r s : Result (Unit {0}) Refusal) → JudgeDone v n t r → JudgeDone v n t' s
+    → (r ≡ Ok tt → s ≡ Ok tt) × (s ≡ Ok tt → r ≡ Ok tt)
 reordered_judge_mesh v n σ t t' w r s p q = (
   λ e.
-      judge_unique v n t' s judge.Done q
+      judge_unique v n t' s (Ok tt) q
       (AnswerLaws.accepted_judge v n t' (first_elements t' n)
       (ReorderedTables.reordered_there n σ t t' w v (first_elements t n) (AnswerLaws.judge_accepted v n t (subst (JudgeDone v n t) e p)))),
   λ e.
-      judge_unique v n t r judge.Done p
+      judge_unique v n t r (Ok tt) p
       (AnswerLaws.accepted_judge v n t (first_elements t n)
       (ReorderedTables.reordered_home n σ t t' w v (first_elements t' n) (AnswerLaws.judge_accepted v n t' (subst (JudgeDone v n t') e q)))),
 )
 
 -- the answer of `cut_mesh` is the same, and its output the same blocks in the new order
-pub reordered_cut_mesh : (v n : ℕ) (σ t t' : List ℕ) → TableReordered n σ t t' → (old : List ℕ) (c : CutCounts) (s : CutAnswer) (new new' : List ℕ)
-    → CutDone v n t old (answer.Done c) new → CutDone v n t' old s new'
-    → (s ≡ answer.Done c) × (new' ≡ laid (flat (blocks_in_order σ (first_elements t n))) old)
+pub reordered_cut_mesh : (v n : ℕ) (σ t t' : List ℕ) → TableReordered n σ t t' → (old : List ℕ) (c : CutCounts) (s : Result CutCounts Refusal) (new new' : List ℕ)
+    → CutDone v n t old (Ok c) new → CutDone v n t' old s new'
+    → (s ≡ Ok c) × (new' ≡ laid (flat (blocks_in_order σ (first_elements t n))) old)
 reordered_cut_mesh v n σ t t' w old c s new new' p q =
-    cut_unique v n t' old s (answer.Done c) new' (laid (flat (blocks_in_order σ (first_elements t n))) old) q
+    cut_unique v n t' old s (Ok c) new' (laid (flat (blocks_in_order σ (first_elements t n))) old) q
     (AnswerLaws.done-answer v n t' old c.tetrahedra (laid (flat (blocks_in_order σ (first_elements t n))) old)
     (ReorderedTables.done_there n σ t t' w v old c.tetrahedra new (AnswerLaws.answer-done v n t old c.tetrahedra new p)))
 
 -- and where it is done with the new table, it is with the old one
-pub reordered_cut_mesh_back : (v n : ℕ) (σ t t' : List ℕ) → TableReordered n σ t t' → (old : List ℕ) (r : CutAnswer) (c : CutCounts) (new new' : List ℕ)
-    → CutDone v n t old r new → CutDone v n t' old (answer.Done c) new' → r ≡ answer.Done c
+pub reordered_cut_mesh_back : (v n : ℕ) (σ t t' : List ℕ) → TableReordered n σ t t' → (old : List ℕ) (r : Result CutCounts Refusal) (c : CutCounts) (new new' : List ℕ)
+    → CutDone v n t old r new → CutDone v n t' old (Ok c) new' → r ≡ Ok c
 reordered_cut_mesh_back v n σ t t' w old r c new new' p q =
-    (cut_unique v n t old r (answer.Done c) new (laid (flat (cut_mesh (first_elements t n))) old) p
+    (cut_unique v n t old r (Ok c) new (laid (flat (cut_mesh (first_elements t n))) old) p
     (AnswerLaws.done-answer v n t old c.tetrahedra (laid (flat (cut_mesh (first_elements t n))) old)
     (ReorderedTables.done_home n σ t t' w v old c.tetrahedra new' (AnswerLaws.answer-done v n t' old c.tetrahedra new' q)))).0
 
@@ -197,19 +192,19 @@ again_cut_alike = CutOfCutTables.again_alike
 
 -- of the functions: the tetrahedra that `cut_mesh` left in memory, given to it again as TE records with the same memory as before, give the same
 -- answer and the same memory, and `judge_mesh` is done with them
-pub again_cut_mesh : (v n : ℕ) (t old : List ℕ) (c : CutCounts) (new : List ℕ) → CutDone v n t old (answer.Done c) new → c.tetrahedra ≤ element_limit
-    → (t' : List ℕ) → BeginsWith (tetrahedra_in c.tetrahedra new) t' → (s : CutAnswer) (new' : List ℕ) → CutDone v c.tetrahedra t' old s new'
-    → (s ≡ answer.Done c) × (new' ≡ new)
+pub again_cut_mesh : (v n : ℕ) (t old : List ℕ) (c : CutCounts) (new : List ℕ) → CutDone v n t old (Ok c) new → c.tetrahedra ≤ element_limit
+    → (t' : List ℕ) → BeginsWith (tetrahedra_in c.tetrahedra new) t' → (s : Result CutCounts Refusal) (new' : List ℕ) → CutDone v c.tetrahedra t' old s new'
+    → (s ≡ Ok c) × (new' ≡ new)
 again_cut_mesh v n t old c new d few t' w s new' q =
     let k = c.tetrahedra in
-    cut_unique v k t' old s (answer.Done c) new' new q
+    cut_unique v k t' old s (Ok c) new' new q
     (AnswerLaws.done-answer v k t' old k new (CutOfCutTables.again-done v n t old k new (AnswerLaws.answer-done v n t old k new d) few t' w))
 
-pub again_judge_mesh : (v n : ℕ) (t old : List ℕ) (c : CutCounts) (new : List ℕ) → CutDone v n t old (answer.Done c) new → c.tetrahedra ≤ element_limit
-    → (t' : List ℕ) → BeginsWith (tetrahedra_in c.tetrahedra new) t' → (s : JudgeAnswer) → JudgeDone v c.tetrahedra t' s → s ≡ judge.Done
+pub again_judge_mesh : (v n : ℕ) (t old : List ℕ) (c : CutCounts) (new : List ℕ) → CutDone v n t old (Ok c) new → c.tetrahedra ≤ element_limit
+    → (t' : List ℕ) → BeginsWith (tetrahedra_in c.tetrahedra new) t' → (s : Result (Unit {0}) Refusal) → JudgeDone v c.tetrahedra t' s → s ≡ Ok tt
 again_judge_mesh v n t old c new d few t' w s q =
     let k = c.tetrahedra in
-    judge_unique v k t' s judge.Done q
+    judge_unique v k t' s (Ok tt) q
     (AnswerLaws.accepted_judge v k t' (first_elements t' k)
     (CutOfCutTables.again-done v n t old k new (AnswerLaws.answer-done v n t old k new d) few t' w).cuts.elements)
 
@@ -240,12 +235,12 @@ no_new_vertex v n t es e =
     (CutOfCutTables.accepted_good v n t es e)
 
 -- the cut reads no coordinate: whatever two vertex tables stand beside an element table, cutting gives one answer and one output (its contract takes none)
-pub no-coordinate : (vertices vertices' : List ℤ) (v n : ℕ) (t old : List ℕ) (r s : CutAnswer) (new new' : List ℕ)
+pub no-coordinate : (vertices vertices' : List ℤ) (v n : ℕ) (t old : List ℕ) (r s : Result CutCounts Refusal) (new new' : List ℕ)
     → CutDone v n t old r new → CutDone v n t old s new' → (r ≡ s) × (new ≡ new')
 no-coordinate vertices vertices' = cut_unique
 
 -- and the sign report, which does read coordinates, counts the tetrahedra of that one cut with every vertex table that it accepts
-pub signs_of_one_cut : (v n : ℕ) (t : List ℕ) (vertices : List ℤ) (c : SignCounts) → SignDone v n t vertices (sign.Done c)
+pub signs_of_one_cut : (v n : ℕ) (t : List ℕ) (vertices : List ℤ) (c : SignCounts) → SignDone v n t vertices (Ok c)
     → c.positive + c.zero + c.negative ≡ length (cut_mesh (first_elements t n))
 signs_of_one_cut = one_cut
 

@@ -1,10 +1,12 @@
 -- What is written reads back: the words of demand 2.
 --   call     one call of a record writer, by what its contract speaks of: the lent buffer before it, the answer, the buffer after it
 --   calls    those that write a file: one for each vertex, one for each element, one for EN
-use Rattle.std.specs.Prelude.{ℕ, zero, suc, ◌+◌, ◌*◌, ◌≤◌, ◌<◌, ◌≡◌, true, false, List, [], ◌∷◌, ◌++◌, ℤ, length, take}
+use Rattle.text.specs.declared.ReadCounts.{ReadCounts}
+use Rattle.std.specs.Prelude.{ℕ, zero, suc, ◌+◌, ◌*◌, ◌≤◌, ◌<◌, ◌≡◌, true, false, List, [], ◌∷◌, ◌++◌, ℤ, length, take, Result, Ok, Err}
 use Rattle.limits.specs.Limits.{file_limit, vertex_width, element_width}
 use Rattle.laws.specs.Lent.{laid}
 use Rattle.faults.specs.Refusals.{accepted}
+use Rattle.faults.specs.declared.Refusal.{Refusal}
 use Rattle.volume.specs.Volume.{point_at}
 use Rattle.records.specs.Record.{record_at}
 use Rattle.format.specs.Line.{mark_of, role_of, line_verdict}
@@ -12,21 +14,16 @@ use Rattle.format.specs.File.{file_verdict}
 use Rattle.format.specs.Records.{vertex_records, element_records, stored_vertices, stored_elements}
 use Rattle.format.specs.declared.ReaderState.{ReaderState}
 use Rattle.format.specs.declared.Rooms.{Rooms}
-use Rattle.format.specs.declared.Line.TheVariants.{Next}
 use Rattle.text.specs.Reading.{ReadDone}
-use Rattle.text.specs.declared.ReadAnswer.{ReadAnswer}
-use Rattle.text.specs.declared.ReadAnswer.TheVariants as read
 use Rattle.writing.specs.Written.{closed, vertex_line, element_line, end_line, written_file, write_vertex_verdict, write_element_verdict, write_end_verdict}
 use Rattle.writing.specs.Writing.{WriteDone}
-use Rattle.writing.specs.declared.WriteAnswer.{WriteAnswer}
-use Rattle.writing.specs.declared.WriteAnswer.TheVariants as write
 
 -- ---- the calls that write a file
 
 -- a call of a record writer
 pub record Call : Type 0 where
   pub old : List ℕ
-  pub answer : WriteAnswer
+  pub answer : Result ℕ Refusal
   pub new : List ℕ
 
 -- the calls for the vertices and the elements, each counted from 0, and for EN
@@ -63,9 +60,9 @@ pub record Called (v n : ℕ) (t : List ℕ) (table : List ℤ) (calls : Calls) 
 -- ---- what they wrote
 
 -- as many bytes from the front of the buffer as the answer says; a refused call wrote nothing
-unfoldable pub bytes_of : WriteAnswer → List ℕ → List ℕ
-bytes_of (write.Done n) new = take n new
-bytes_of (write.Refused r) new = []
+unfoldable pub bytes_of : Result ℕ Refusal → List ℕ → List ℕ
+bytes_of (Ok n) new = take n new
+bytes_of (Err r) new = []
 
 -- what a call wrote
 unfoldable pub wrote : Call → List ℕ
@@ -92,7 +89,7 @@ ended v n = record { vertices = v; elements = n; ended = true }
 
 -- a line is accepted in a state, leads to the next state, and adds vs to the vertex table and es to the element table
 pub record LineBack (rooms : Rooms) (state : ReaderState) (l : List ℕ) (vs : List ℤ) (es : List ℕ) (next : ReaderState) : Type 0 where
-  pub verdict : line_verdict rooms state true l ≡ Next next
+  pub verdict : line_verdict rooms state true l ≡ Ok next
   pub vertices : vertex_records state (role_of (mark_of l)) l ≡ vs
   pub elements : element_records state (role_of (mark_of l)) l ≡ es
 
@@ -108,12 +105,12 @@ pub record FileBack (rooms : Rooms) (v n : ℕ) (t : List ℕ) (table : List ℤ
 
 -- a call is done: its answer is the length of the text, and its buffer holds the text, then what stood behind it
 pub record CallDone (text : List ℕ) (c : Call) : Type 0 where
-  pub answer : c.answer ≡ write.Done (length text)
+  pub answer : c.answer ≡ Ok (length text)
   pub buffer : c.new ≡ laid text c.old
 
 -- reading is done with the same counts, and both lent tables hold the same records, then what stood behind them
-pub record SameTables (v n : ℕ) (t : List ℕ) (table vertices : List ℤ) (elements : List ℕ) (r : ReadAnswer) (vertices' : List ℤ) (elements' : List ℕ) : Type 0 where
-  pub answer : r ≡ read.Done (record { vertices = v; elements = n })
+pub record SameTables (v n : ℕ) (t : List ℕ) (table vertices : List ℤ) (elements : List ℕ) (r : Result ReadCounts Refusal) (vertices' : List ℤ) (elements' : List ℕ) : Type 0 where
+  pub answer : r ≡ Ok (record { vertices = v; elements = n })
   pub vertex_table : vertices' ≡ laid (take (vertex_width * v) table) vertices
   pub element_table : elements' ≡ laid (take (element_width * n) t) elements
 
@@ -125,6 +122,6 @@ pub record ReadsBack (v n : ℕ) (t : List ℕ) (table : List ℤ) (calls : Call
   pub end : CallDone (end_text v n) calls.end
   pub file : together v n calls ≡ written_file table t v n
   pub back : length (together v n calls) ≤ file_limit
-      → (vertices : List ℤ) (elements : List ℕ) (r : ReadAnswer) (vertices' : List ℤ) (elements' : List ℕ)
+      → (vertices : List ℤ) (elements : List ℕ) (r : Result ReadCounts Refusal) (vertices' : List ℤ) (elements' : List ℕ)
       → vertex_width * v ≤ length vertices → element_width * n ≤ length elements
       → ReadDone (together v n calls) vertices elements r vertices' elements' → SameTables v n t table vertices elements r vertices' elements'

@@ -43,24 +43,9 @@ fn read_full(input: &mut impl Read, buffer: &mut [u8]) -> io::Result<usize>
     Ok(at)
 }
 
-// Where b stands first in t, or t's length.
-fn find(t: &[u8], b: u8) -> usize
-    ensures { result ≤ length t.now }
-{
-    let mut i = 0;
-    while i < t.len() {
-        if t[i] == b {
-            return i;
-        }
-        i += 1;
-    }
-    i
-}
-
 // A sample: its name, byte 10, the file.
 fn named(rt: &impl Print, t: &[u8]) -> io::Result<()> {
-    let n = find(t, LINE_END);
-    if n < t.len() {
+    if let Some(n) = t.iter().position(|b| *b == LINE_END) {
         sample(rt, &t[..n], &t[n + 1..])?;
     }
     Ok(())
@@ -68,46 +53,18 @@ fn named(rt: &impl Print, t: &[u8]) -> io::Result<()> {
 
 // The samples of a text, each behind its `#`.
 fn samples(rt: &impl Print, text: &[u8]) -> io::Result<()> {
-    let mut t = text;
-    while 0 < t.len() {
-        let n = find(t, SAMPLE);
-        named(rt, &t[..n])?;
-        if n == t.len() {
-            return Ok(());
-        }
-        t = &t[n + 1..];
+    for t in text.split(|b| *b == SAMPLE) {
+        named(rt, t)?;
     }
     Ok(())
 }
 
 // ROOM: a lent table too short, and one that is just long enough.
 fn rooms(rt: &impl Print) -> io::Result<()> {
-    sample_in(
-        rt,
-        b"room for one vertex",
-        b"VX 0 0 0\nVX 0 0 0\nEN 2 0\n",
-        5,
-        9,
-    )?;
-    sample_in(
-        rt,
-        b"room for two vertices",
-        b"VX 0 0 0\nVX 0 0 0\nEN 2 0\n",
-        6,
-        9,
-    )?;
-    sample_in(
-        rt,
-        b"room for no element",
-        b"VX 0 0 0\nTE 1 1 1 1\nEN 1 1\n",
-        3,
-        8,
-    )?;
-    sample_in(
-        rt,
-        b"room for one element",
-        b"VX 0 0 0\nTE 1 1 1 1\nEN 1 1\n",
-        3,
-        9,
-    )
+    let vertices = b"VX 0 0 0\nVX 0 0 0\nEN 2 0\n";
+    sample_in(rt, b"room for one vertex", vertices, 5, 9)?;
+    sample_in(rt, b"room for two vertices", vertices, 6, 9)?;
+    let element = b"VX 0 0 0\nTE 1 1 1 1\nEN 1 1\n";
+    sample_in(rt, b"room for no element", element, 3, 8)?;
+    sample_in(rt, b"room for one element", element, 3, 9)
 }

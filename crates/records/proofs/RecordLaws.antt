@@ -5,23 +5,21 @@ use mathlib.Core.Bool.{Bool, true, false, cond, not, ◌&&◌, ◌||◌}
 use mathlib.Core.List.Memᴰ
 use mathlib.Core.List.{List, [], ◌∷◌, ◌++◌, Memᴰ}
 use mathlib.Core.Logic.{◌⊎◌, inl, inr}
-use Prim.Native.Nat.{ℕ, zero, suc, ◌+◌, ◌-◌, ◌*◌, ◌/◌, ◌≤◌, ◌<◌, min}
+use Prim.Native.Nat.{ℕ, zero, suc, ◌+◌, ◌*◌, ◌≤◌, ◌<◌, min}
 use native.Mathlib.Nat.{not-suc-le-zero}
 use native.Mathlib.Numerals.{add-one, one-add}
 use native.Mathlib.Omega.{arith}
 use lib.Dec.{T, eqb, ltb, leb, eqb→eq, ltb→lt, leb→le, lt→ltb, le→leb}
 use lib.ListN.{length, get_or, take, drop, length-append, length-take, length-drop, take-append-drop, drop_of_length-le, get_or-eq_default, get_or-append}
-use lib.Seq.{take_all, drop-drop, drop-cons, drop-length, get_or-take, get_or-drop, get_or_at, take_at, drop_at, length-take-le, ext_get_or}
+use lib.Seq.{take_all, drop-cons, get_or-take, get_or-drop, get_or_at, take_at, drop_at, length-take-le, ext_get_or}
 use borrow.Author.Tests.{eq-eqb, ne_eqb, eqb-true, eqb-false, ltb-false, le-ltb, not-false}
 use Rattle.limits.specs.Limits.{element_width}
 use Rattle.laws.specs.Words.{every, some, distinct}
 use Rattle.laws.proofs.TestLaws.{T_true, true-T, and_left, and_right, and_both}
-use Rattle.laws.proofs.WordLaws.{part_from}
 use Rattle.laws.proofs.EveryLaws.{every_append, every_index, every_follows, every_implies, none_follows}
 use Rattle.faults.specs.declared.Fault.{Fault}
 use Rattle.faults.specs.declared.Fault.TheVariants.{Kind, Vertex, Spare, Repeat}
-use Rattle.faults.specs.declared.Finding.{Finding}
-use Rattle.faults.specs.declared.Finding.TheVariants.{Clean, Found}
+use Rattle.std.specs.Prelude.{Result, Ok, Err}
 use Rattle.solids.specs.Solids.{Element, corners, at}
 use Rattle.solids.specs.Fit.{proper}
 use Rattle.records.specs.Record.{kind_of, numbers_of, used_of, spare_of, record_of, corner_at, is_kind, solid_of, element_of, stray_vertex, not_zero, record_finding, record_at, element_at, first_elements}
@@ -103,8 +101,8 @@ corner_above r zero l = absurd (omega arith)
 corner_above r (suc i) l =
     sym (get_or-eq_default (take 8 (drop 1 r)) 0 (let e = length-take 8 (drop 1 r) in omega arith))
 
-pub corner_behind : (r : List ℕ) (p : ℕ) → 0 < p → p ≤ 8 → length r ≤ p → 0 ≡ corner_at r p
-corner_behind r p l h e = sym (get_or-eq_default r 0 e) ∙ corner_field r p l h
+-- a place is of no corner, above them, or an index of the record
+pub ruleset corner_cases = (corner_none, corner_above, corner_field)
 
 -- at the places of the corners stand the vertex numbers of the corners
 pub corner_used : (r : List ℕ) (p : ℕ) → p ≤ kind_of r → corner_at r p ≡ at (used_of r) p
@@ -118,17 +116,6 @@ module _ (r : List ℕ) (wide : length r ≡ element_width) where
   all_numbers : numbers_of r ≡ drop 1 r
   unfolding numbers_of
   all_numbers = take_all 8 (drop 1 r) (let e = length-drop 1 r in omega arith)
-
-  -- the code's parts are the used and the unused vertex numbers
-  pub used_part : (k : ℕ) → k ≡ kind_of r → take (1 + k - 1) (drop 1 r) ≡ used_of r
-  unfolding used_of
-  used_part k e =
-      let s : 1 + k - 1 ≡ kind_of r = omega arith in
-      rw (s, all_numbers)
-
-  pub spare_part : (k : ℕ) → k ≡ kind_of r → drop (1 + k) r ≡ spare_of r
-  unfolding spare_of
-  spare_part k e = rw (e, all_numbers) (sym (drop-drop (kind_of r) 1 r))
 
   -- a record is its kind, its used and its unused vertex numbers
   pub record_parts : r ≡ kind_of r ∷ (used_of r ++ spare_of r)
@@ -161,38 +148,19 @@ module _ (k : ℕ) (used spare : List ℕ) (many : length used ≡ k) (eight : l
 
 -- ---- what a record is found to be
 
--- the first fault, by the tests that lead to it
-module _ (limit : ℕ) (r : List ℕ) where
-  pub finding_short : (length r ≡ element_width → ⊥) → Found Kind ≡ record_finding limit r
+-- a record of nine numbers, of a kind, with no stray and no spare vertex number: whether a vertex stands twice
+module _ (limit : ℕ) (r : List ℕ) (wide : length r ≡ element_width) (kind : is_kind (kind_of r) ≡ true)
+    (vertex : some (stray_vertex limit) (used_of r) ≡ false) (spare : some not_zero (spare_of r) ≡ false) where
+  pub finding_repeat : distinct (used_of r) ≡ false → Err Repeat ≡ record_finding limit r
   unfolding record_finding
-  finding_short n = rw (ne_eqb (length r) element_width n)
+  finding_repeat d = rw (eq-eqb (length r) element_width wide, kind, vertex, spare, d)
 
-  module _ (wide : length r ≡ element_width) where
-    pub finding_kind : is_kind (kind_of r) ≡ false → Found Kind ≡ record_finding limit r
-    unfolding record_finding
-    finding_kind k = rw (eq-eqb (length r) element_width wide, k)
-
-    module _ (kind : is_kind (kind_of r) ≡ true) where
-      pub finding_vertex : some (stray_vertex limit) (used_of r) ≡ true → Found Vertex ≡ record_finding limit r
-      unfolding record_finding
-      finding_vertex v = rw (eq-eqb (length r) element_width wide, kind, v)
-
-      module _ (vertex : some (stray_vertex limit) (used_of r) ≡ false) where
-        pub finding_spare : some not_zero (spare_of r) ≡ true → Found Spare ≡ record_finding limit r
-        unfolding record_finding
-        finding_spare s = rw (eq-eqb (length r) element_width wide, kind, vertex, s)
-
-        module _ (spare : some not_zero (spare_of r) ≡ false) where
-          pub finding_repeat : distinct (used_of r) ≡ false → Found Repeat ≡ record_finding limit r
-          unfolding record_finding
-          finding_repeat d = rw (eq-eqb (length r) element_width wide, kind, vertex, spare, d)
-
-          pub finding_clean : distinct (used_of r) ≡ true → Clean ≡ record_finding limit r
-          unfolding record_finding
-          finding_clean d = rw (eq-eqb (length r) element_width wide, kind, vertex, spare, d)
+  pub finding_clean : distinct (used_of r) ≡ true → Ok tt ≡ record_finding limit r
+  unfolding record_finding
+  finding_clean d = rw (eq-eqb (length r) element_width wide, kind, vertex, spare, d)
 
 -- a finding past a test that may have found a fault
-past : (b : Bool) (f : Fault) {next : Finding} → cond b (Found f) next ≡ Clean → (b ≡ false) × (next ≡ Clean)
+past : (b : Bool) (f : Fault) {next : Result (Unit {0}) Fault} → cond b (Err f) next ≡ Ok tt → (b ≡ false) × (next ≡ Ok tt)
 past true f e = let z : ◌≡◌ {A = ℕ} 0 1 = cc in absurd (omega arith)
 past false f e = (refl, e)
 
@@ -217,7 +185,7 @@ is_zero v e = true-T (eq-eqb 0 v (sym (eqb-true v 0 (not-false (eqb v 0) e))))
 
 module _ (limit : ℕ) (r : List ℕ) where
   -- no fault is found exactly where there is none
-  pub clean_faultless : record_finding limit r ≡ Clean → Faultless limit r
+  pub clean_faultless : record_finding limit r ≡ Ok tt → Faultless limit r
   unfolding record_finding
   clean_faultless e =
       let shape = eqb (length r) element_width && is_kind (kind_of r) in
@@ -234,7 +202,7 @@ module _ (limit : ℕ) (r : List ℕ) where
         apart = true-T (not-false (distinct (used_of r)) d.0);
       }
 
-  pub faultless_clean : Faultless limit r → record_finding limit r ≡ Clean
+  pub faultless_clean : Faultless limit r → record_finding limit r ≡ Ok tt
   faultless_clean f =
       sym
       (finding_clean limit r f.wide (T_true (is_kind (kind_of r)) f.kind)
@@ -243,7 +211,7 @@ module _ (limit : ℕ) (r : List ℕ) where
       (T_true (distinct (used_of r)) f.apart))
 
   -- a record without a fault is whole
-  pub clean-whole : record_finding limit r ≡ Clean → Whole r
+  pub clean-whole : record_finding limit r ≡ Ok tt → Whole r
   clean-whole e =
       let f = clean_faultless e in
       record {
@@ -254,7 +222,7 @@ module _ (limit : ℕ) (r : List ℕ) where
       }
 
   -- at each corner's place stands a vertex number between 1 and the limit
-  pub clean_corner : record_finding limit r ≡ Clean → (p : ℕ) → 0 < p → p ≤ kind_of r → T (is_number limit (corner_at r p))
+  pub clean_corner : record_finding limit r ≡ Ok tt → (p : ℕ) → 0 < p → p ≤ kind_of r → T (is_number limit (corner_at r p))
   clean_corner e zero l h = absurd (not-suc-le-zero l)
   clean_corner e (suc i) l h =
       rw (corner_used r (suc i) h)
@@ -262,24 +230,19 @@ module _ (limit : ℕ) (r : List ℕ) where
 
 -- ---- the records of a table
 
--- the code's part of a table
-pub record_part : (t : List ℕ) (k : ℕ) → take (element_width * k + element_width - element_width * k) (drop (element_width * k) t) ≡ record_at t k
+-- a record starts where it should, or, where that is no number of the machine's, behind the table's end
+pub record_from : (t : List ℕ) (k start top : ℕ) → length t ≤ top → start ≡ min (k * element_width) top → take element_width (drop start t) ≡ record_at t k
 unfolding record_at
-record_part t k =
-    let e : element_width * k + element_width - element_width * k ≡ element_width = omega arith in
-    rw e
-
--- where the table ends before the record does
-pub record_short : (t : List ℕ) (k : ℕ) → length t - element_width * k < element_width → take (length t - element_width * k) (drop (element_width * k) t) ≡ record_at t k
-unfolding record_at
-record_short t k h =
-    part_from t (element_width * k) ∙ sym (take_all element_width (drop (element_width * k) t) (let e = length-drop (element_width * k) t in omega arith))
-
--- where it ends before the record starts
-pub record_beyond : (t : List ℕ) (k : ℕ) → length t / element_width < k → take (length t - length t) (drop (length t) t) ≡ record_at t k
-unfolding record_at
-record_beyond t k h =
-    part_from t (length t) ∙ drop-length t ∙ sym (ap (take element_width) (drop_of_length-le t {i = element_width * k} (omega arith)))
+record_from t k start top long e = ap (take element_width) (by (ltb top (element_width * k)) refl)
+  where
+    by : (b : Bool) → ltb top (element_width * k) ≡ b → drop start t ≡ drop (element_width * k) t
+    by true l =
+        let h = ltb→lt top (element_width * k) (true-T l) in
+        drop_of_length-le t {i = start} (omega arith) ∙ sym (drop_of_length-le t {i = element_width * k} (omega arith))
+    by false l =
+        let h = ltb-false top (element_width * k) l in
+        let q : start ≡ element_width * k = omega arith in
+        rw q
 
 -- where the table is long enough for n records, each of them has nine numbers
 pub record_length : (t : List ℕ) (n k : ℕ) → element_width * n ≤ length t → k < n → length (record_at t k) ≡ element_width

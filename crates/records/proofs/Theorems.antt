@@ -1,6 +1,6 @@
 -- What is proved of the element record, in the words of specs/ alone. A reader starts here.
 -- Assumes nothing.
-use mathlib.Core.Path.{◌≡◌, sym, ◌∙◌}
+use mathlib.Core.Path.{◌≡◌, sym, ap, ◌∙◌}
 use mathlib.Core.Bool.{Bool}
 use mathlib.Core.List.{List, ◌∷◌, ◌++◌, Memᴰ}
 use Prim.Native.Nat.{ℕ, ◌+◌, ◌*◌, ◌≤◌, ◌<◌}
@@ -8,13 +8,15 @@ use lib.Dec.{T, eqb}
 use lib.ListN.{length, get_or}
 use Rattle.limits.specs.Limits.{element_width}
 use Rattle.laws.specs.Words.{every, gather, among}
-use Rattle.faults.specs.declared.Finding.{Finding}
-use Rattle.faults.specs.declared.Finding.TheVariants.{Clean}
+use Rattle.std.specs.Prelude.{Result, Ok}
+use Rattle.faults.specs.declared.Fault.{Fault}
 use Rattle.solids.specs.declared.Solid.{Solid}
 use Rattle.solids.specs.declared.Vertex.{Vertex}
-use Rattle.solids.specs.Solids.{Tet, Element, corners_of, at}
+use Rattle.solids.specs.Solids.{Tet, Element, element, corners_of, at}
 use Rattle.solids.specs.Fit.{proper}
 use Rattle.records.specs.Record.{kind_of, used_of, spare_of, record_of, as_record, corner_at, solid_of, element_of, record_finding, record_at, element_at, first_elements, record_count}
+use Rattle.records.specs.Elements.{seen}
+use Rattle.records.specs.declared.element.Element as declared
 use Rattle.records.specs.WholeRecords.{is_number, Faultless, Whole, WholeTable}
 use Rattle.records.proofs.RecordLaws as L
 use Rattle.records.proofs.GatheredLaws as G
@@ -40,6 +42,13 @@ corner_unique r p a b e f = λ i. record { 0 = one e f i }
 pub corners_unique : (r : List ℕ) (a b : List ℕ) → a ≡ used_of r → b ≡ used_of r → a ≡ b
 corners_unique r a b = one
 
+-- `Element::of`: the same solid, and the same vertex numbers
+pub element_unique : (r : List ℕ) (a b : declared.Element) → seen a ≡ element_of r → seen b ≡ element_of r → (a.solid ≡ b.solid) × (a.corners.now ≡ b.corners.now)
+element_unique r a b e f = (ap solid_in (one e f), ap corners_of (one e f))
+  where
+    solid_in : Element → Solid
+    solid_in (element s vs) = s
+
 -- `tetrahedron_record`
 pub tetrahedron_unique : (t : Tet ℕ) (a b : List ℕ) → a ≡ as_record t → b ≡ as_record t → a ≡ b
 tetrahedron_unique t a b = one
@@ -57,23 +66,23 @@ pub among_unique : (v : ℕ) (l : List ℕ) (a b : Bool) → a ≡ among v l →
 among_unique v l a b = one
 
 -- `judge_record`
-pub judgement_unique : (limit : ℕ) (r : List ℕ) (a b : Finding) → a ≡ record_finding limit r → b ≡ record_finding limit r → a ≡ b
+pub judgement_unique : (limit : ℕ) (r : List ℕ) (a b : Result (Unit {0}) Fault) → a ≡ record_finding limit r → b ≡ record_finding limit r → a ≡ b
 judgement_unique limit r a b = one
 
 -- ---- a record
 
 -- no fault is found exactly where there is none
-pub clean_faultless : (limit : ℕ) (r : List ℕ) → record_finding limit r ≡ Clean → Faultless limit r
+pub clean_faultless : (limit : ℕ) (r : List ℕ) → record_finding limit r ≡ Ok tt → Faultless limit r
 clean_faultless = L.clean_faultless
 
-pub faultless_clean : (limit : ℕ) (r : List ℕ) → Faultless limit r → record_finding limit r ≡ Clean
+pub faultless_clean : (limit : ℕ) (r : List ℕ) → Faultless limit r → record_finding limit r ≡ Ok tt
 faultless_clean = L.faultless_clean
 
 -- a record without a fault is whole, and a vertex number between 1 and the limit stands at each of its corners
-pub clean-whole : (limit : ℕ) (r : List ℕ) → record_finding limit r ≡ Clean → Whole r
+pub clean-whole : (limit : ℕ) (r : List ℕ) → record_finding limit r ≡ Ok tt → Whole r
 clean-whole = L.clean-whole
 
-pub clean_corner : (limit : ℕ) (r : List ℕ) → record_finding limit r ≡ Clean → (p : ℕ) → 0 < p → p ≤ kind_of r → T (is_number limit (corner_at r p))
+pub clean_corner : (limit : ℕ) (r : List ℕ) → record_finding limit r ≡ Ok tt → (p : ℕ) → 0 < p → p ≤ kind_of r → T (is_number limit (corner_at r p))
 clean_corner = L.clean_corner
 
 -- a whole record holds a proper element, whose corners are the vertex numbers at its places

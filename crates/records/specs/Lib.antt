@@ -1,3 +1,4 @@
 -- The page's element record, and how it is judged.
 pub mod Record
+pub mod Elements
 pub mod WholeRecords

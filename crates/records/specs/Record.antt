@@ -1,11 +1,10 @@
 -- The element record: nine numbers, its kind (4, 5, 6 or 8, its corner count), then eight vertex numbers, unused ones zero.
 -- Judging and cutting take a record apart by these names.
-use Rattle.std.specs.Prelude.{Bool, cond, not, ◌&&◌, ◌||◌, List, [], ◌∷◌, ◌++◌, ℕ, zero, suc, ◌*◌, ◌/◌, eqb, ltb, length, get_or, take, drop}
+use Rattle.std.specs.Prelude.{Bool, cond, not, ◌&&◌, ◌||◌, List, [], ◌∷◌, ◌++◌, ℕ, zero, suc, ◌*◌, ◌/◌, eqb, ltb, length, get_or, take, drop, Result, Ok, Err}
 use Rattle.limits.specs.Limits.{element_width, corner_width}
 use Rattle.laws.specs.Words.{some, distinct}
+use Rattle.faults.specs.declared.Fault.{Fault}
 use Rattle.faults.specs.declared.Fault.TheVariants as fault
-use Rattle.faults.specs.declared.Finding.{Finding}
-use Rattle.faults.specs.declared.Finding.TheVariants.{Clean, Found}
 use Rattle.solids.specs.declared.Solid.{Solid}
 use Rattle.solids.specs.declared.Solid.TheVariants.{Tetrahedron, Pyramid, Prism, Hexahedron}
 use Rattle.solids.specs.Solids.{Place, Vertex, Tet, of_tet, Element, element, at}
@@ -60,13 +59,13 @@ not_zero v = not (eqb v 0)
 
 -- KIND, VERTEX, SPARE, REPEAT, in this order: the first fault of a record whose vertex numbers may go up to a limit;
 -- what is not nine numbers is KIND
-unfoldable pub record_finding : ℕ → List ℕ → Finding
+unfoldable pub record_finding : ℕ → List ℕ → Result (Unit {0}) Fault
 record_finding limit r =
-    cond (not (eqb (length r) element_width && is_kind (kind_of r))) (Found fault.Kind)
-    (cond (some (stray_vertex limit) (used_of r)) (Found fault.Vertex)
-    (cond (some not_zero (spare_of r)) (Found fault.Spare)
-    (cond (not (distinct (used_of r))) (Found fault.Repeat)
-    Clean)))
+    cond (not (eqb (length r) element_width && is_kind (kind_of r))) (Err fault.Kind)
+    (cond (some (stray_vertex limit) (used_of r)) (Err fault.Vertex)
+    (cond (some not_zero (spare_of r)) (Err fault.Spare)
+    (cond (not (distinct (used_of r))) (Err fault.Repeat)
+    (Ok tt))))
 
 -- how many whole records a table holds
 unfoldable pub record_count : List ℕ → ℕ

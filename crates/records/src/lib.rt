@@ -3,87 +3,86 @@
 
 ghost use Rattle.std.specs.Prelude.{◌≡◌, take, drop};
 ghost use Rattle.laws.specs.Words.{some, among, distinct};
-ghost use Rattle.records.specs.Record.{kind_of, used_of, is_kind, solid_of, corner_at, stray_vertex, not_zero, record_finding, record_count, record_at, as_record};
+ghost use Rattle.records.specs.Record.{kind_of, numbers_of, used_of, spare_of, is_kind, solid_of, corner_at, stray_vertex, not_zero, record_finding, record_count, record_at, as_record};
 ghost use Rattle.solids.specs.Solids.{tet};
 
-use faults::{Fault, Finding};
+use faults::Fault;
 use limits::{CORNER_WIDTH, ELEMENT_WIDTH};
 use solids::{Place, Solid, Vertex};
+
+mod element;
+
+pub use element::Element;
 
 // The solid of a kind; any other number is refused before its solid is asked for.
 #[tactic(auto, unfolding(crate::specs::Record::solid_of))]
 pub fn solid_of(kind: u16) -> Solid
     ensures { result ≡ solid_of kind }
 {
-    if kind == 4 {
-        return Solid::Tetrahedron;
+    match kind {
+        4 => Solid::Tetrahedron,
+        5 => Solid::Pyramid,
+        6 => Solid::Prism,
+        _ => Solid::Hexahedron,
     }
-    if kind == 5 {
-        return Solid::Pyramid;
-    }
-    if kind == 6 {
-        return Solid::Prism;
-    }
-    Solid::Hexahedron
 }
 
-// The kind, which is the corner count; 0 where there is no record.
+// The kind, which is the corner count; as it is defined, 0 of an empty record.
 #[tactic(auto, unfolding(crate::specs::Record::kind_of))]
 pub fn kind_of(element: &[u16]) -> u16
     ensures { result ≡ kind_of element.now }
 {
-    if element.len() == 0 {
-        return 0;
-    }
-    element[0]
+    element.first().copied().unwrap_or(0)
 }
 
-// The vertex number at a place; 0 where there is none.
-#[tactic(auto, using(crate::proofs::RecordLaws::corner_none, crate::proofs::RecordLaws::corner_above, crate::proofs::RecordLaws::corner_behind, crate::proofs::RecordLaws::corner_field))]
+// The vertex number at a place; as it is defined, 0 at a place that the record does not have.
+#[tactic(auto, using(crate::proofs::RecordLaws::corner_cases))]
 pub fn corner(element: &[u16], place: Place) -> Vertex
     ensures { result.0 ≡ corner_at element.now place.0 }
 {
-    let p = place.0;
-    let at = p as usize;
-    if at == 0 {
-        return Vertex(0);
+    match usize::from(place.0) {
+        at @ 1..=CORNER_WIDTH => Vertex(element.get(at).copied().unwrap_or(0)),
+        _ => Vertex(0),
     }
-    if CORNER_WIDTH < at {
-        return Vertex(0);
-    }
-    if element.len() <= at {
-        return Vertex(0);
-    }
-    Vertex(element[at])
 }
 
 // The first n numbers, or all where they are fewer.
 fn front(numbers: &[u16], n: usize) -> &[u16]
     ensures { result.now ≡ take n numbers.now }
 {
-    if numbers.len() <= n {
-        return numbers;
-    }
-    &numbers[..n]
+    &numbers[..n.min(numbers.len())]
 }
 
-// The numbers behind the first n, or none where they are fewer.
+// The numbers behind the first n; empty where they are fewer.
 fn behind(numbers: &[u16], n: usize) -> &[u16]
     ensures { result.now ≡ drop n numbers.now }
 {
-    if numbers.len() <= n {
-        return &numbers[..0];
-    }
-    &numbers[n..]
+    &numbers[n.min(numbers.len())..]
+}
+
+// The eight vertex numbers of a record.
+#[tactic(auto, unfolding(crate::specs::Record::numbers_of))]
+fn numbers_of(element: &[u16]) -> &[u16]
+    ensures { result.now ≡ numbers_of element.now }
+{
+    front(behind(element, 1), CORNER_WIDTH)
+}
+
+// The vertex numbers of a record's corners, and the unused ones.
+#[tactic(auto, unfolding(crate::specs::Record::used_of, crate::specs::Record::spare_of))]
+fn parts_of(element: &[u16]) -> (&[u16], &[u16])
+    ensures used { result.0.now ≡ used_of element.now }
+    ensures spare { result.1.now ≡ spare_of element.now }
+{
+    let numbers = numbers_of(element);
+    numbers.split_at(usize::from(kind_of(element)).min(numbers.len()))
 }
 
 // The vertex numbers of a record's corners.
-#[tactic(auto, unfolding(crate::specs::Record::used_of, crate::specs::Record::numbers_of))]
 pub fn corners_of(element: &[u16]) -> &[u16]
     ensures { result.now ≡ used_of element.now }
 {
-    let kind = kind_of(element) as usize;
-    front(front(behind(element, 1), CORNER_WIDTH), kind)
+    parts_of(element).0
 }
 
 // How many whole records a table holds.
@@ -95,20 +94,14 @@ pub fn record_count(table: &[u16]) -> usize
 }
 
 // The record k of a table, from 0; where the table ends before it does, what there is of it.
-#[tactic(auto, using(crate::proofs::RecordLaws::record_part, crate::proofs::RecordLaws::record_short, crate::proofs::RecordLaws::record_beyond))]
+#[tactic(auto, using(crate::proofs::RecordLaws::record_from))]
 pub fn record_at(table: &[u16], k: usize) -> &[u16]
     ensures { result.now ≡ record_at table.now k }
 {
-    let len = table.len();
-    if len / ELEMENT_WIDTH < k {
-        return &table[len..];
-    }
-    let start = ELEMENT_WIDTH * k;
-    if len - start < ELEMENT_WIDTH {
-        return &table[start..];
-    }
-    let end = start + ELEMENT_WIDTH;
-    &table[start..end]
+    front(
+        behind(table, k.saturating_mul(ELEMENT_WIDTH)),
+        ELEMENT_WIDTH,
+    )
 }
 
 // The record of a tetrahedron with these corners.
@@ -123,100 +116,59 @@ pub fn tetrahedron_record(a: Vertex, b: Vertex, c: Vertex, d: Vertex) -> [u16; E
 fn is_kind(kind: u16) -> bool
     ensures { result ≡ is_kind kind }
 {
-    if kind == 4 {
-        return true;
-    }
-    if kind == 5 {
-        return true;
-    }
-    if kind == 6 {
-        return true;
-    }
-    kind == 8
+    matches!(kind, 4 | 5 | 6 | 8)
 }
 
 // One of the vertex numbers is 0 or above the limit.
 fn has_stray(used: &[u16], limit: usize) -> bool
     ensures { result ≡ some (stray_vertex limit) used.now }
 {
-    let mut i = 0;
-    while i < used.len() {
-        if used[i] == 0 {
-            return true;
-        }
-        if limit < used[i] as usize {
-            return true;
-        }
-        i += 1;
-    }
-    false
+    used.iter().any(|&v| v == 0 || limit < usize::from(v))
 }
 
 // One of the unused vertex numbers is not zero.
 fn has_nonzero(spare: &[u16]) -> bool
     ensures { result ≡ some not_zero spare.now }
 {
-    let mut i = 0;
-    while i < spare.len() {
-        if spare[i] != 0 {
-            return true;
-        }
-        i += 1;
-    }
-    false
+    spare.iter().any(|&v| v != 0)
 }
 
 // The vertex is among those of the list.
 pub fn is_among(v: Vertex, list: &[u16]) -> bool
     ensures { result ≡ among v.0 list.now }
 {
-    let mut k = 0;
-    while k < list.len() {
-        if v.0 == list[k] {
-            return true;
-        }
-        k += 1;
-    }
-    false
+    list.contains(&v.0)
 }
 
 // No number stands twice.
 fn is_distinct(numbers: &[u16]) -> bool
     ensures { result ≡ distinct numbers.now }
 {
-    let mut i = 0;
-    while i < numbers.len() {
-        let next = i + 1;
-        if is_among(Vertex(numbers[i]), &numbers[next..]) {
+    for i in 0..numbers.len() {
+        if numbers[i + 1..].contains(&numbers[i]) {
             return false;
         }
-        i = next;
     }
     true
 }
 
 // The first fault of a record whose vertex numbers may go up to a limit: KIND, VERTEX, SPARE, REPEAT, in this order.
-pub fn judge_record(element: &[u16], limit: usize) -> Finding
+#[tactic(auto, unfolding(crate::specs::Record::record_finding))]
+pub fn judge_record(element: &[u16], limit: usize) -> Result<(), Fault>
     ensures { result ≡ record_finding limit element.now }
 {
-    if element.len() != ELEMENT_WIDTH {
-        return Finding::Found(Fault::Kind);
+    if element.len() != ELEMENT_WIDTH || !is_kind(kind_of(element)) {
+        return Err(Fault::Kind);
     }
-    let kind = element[0];
-    if !is_kind(kind) {
-        return Finding::Found(Fault::Kind);
-    }
-    let end = 1 + kind as usize;
-    let used = &element[1..end];
-    let spare = &element[end..];
+    let (used, spare) = parts_of(element);
     if has_stray(used, limit) {
-        return Finding::Found(Fault::Vertex);
+        return Err(Fault::Vertex);
     }
     if has_nonzero(spare) {
-        return Finding::Found(Fault::Spare);
+        return Err(Fault::Spare);
     }
     if !is_distinct(used) {
-        return Finding::Found(Fault::Repeat);
+        return Err(Fault::Repeat);
     }
-    Finding::Clean
+    Ok(())
 }

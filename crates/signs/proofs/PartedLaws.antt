@@ -1,15 +1,15 @@
 -- Keys parted into blocks: one block more, the blocks of an accepted table, and that their vertices are within the limits.
 -- Assumes nothing.
 use mathlib.Core.Path.{◌≡◌, refl, sym, ap, ◌∙◌, subst}
-use mathlib.Core.List.{List, [], ◌∷◌, ◌++◌, map, map-append, append_assoc}
+use mathlib.Core.List.{List, [], ◌∷◌, ◌++◌, map, append-nil, append_assoc}
 use Prim.Native.Nat.{ℕ, zero, suc, ◌+◌, ◌-◌, ◌≤◌, ◌<◌}
 use native.Mathlib.Nat.{le_refl, add-zero, add-suc, add-sub_of_le}
 use native.Mathlib.Numerals.{add-one}
 use native.Mathlib.Omega.{arith}
 use lib.Dec.{T, ltb, leb, ltb→lt, leb→le}
 use lib.IntN.{ℤ}
-use lib.ListN.{length, take, drop, get_or, length-append, take-append-drop, get_or-map}
-use lib.Seq.{take_at, drop_at, take-suc, drop-drop, get_or-take}
+use lib.ListN.{length, take, drop, get_or, length-append, length-map, get_or-map}
+use lib.Seq.{take_at, drop_at, take-suc, take-length, drop-drop}
 use Rattle.laws.proofs.ListLaws.{map-drop}
 use Rattle.limits.specs.Limits.{element_limit, tetrahedron_limit}
 use Rattle.laws.specs.Words.{every}
@@ -45,8 +45,9 @@ total_grows l zero k h = rw (add-zero k) (le_refl (total (take k l)))
 total_grows l (suc d) k h =
     rw (add-suc k d, ← add-one (k + d)) (omega (arith, total-next l (k + d) (omega arith), total_grows l d k (omega arith)))
 
-pub total-most : (l : List ℕ) {k n : ℕ} → k ≤ n → n ≤ length l → total (take k l) ≤ total (take n l)
-total-most l {k} {n} h m = rw (add-sub_of_le h) at (total_grows l (n - k) k (omega arith))
+pub total-most : (l : List ℕ) (k : ℕ) → k ≤ length l → total (take k l) ≤ total l
+total-most l k h =
+    rw (take-length l) at (rw (add-sub_of_le h) at (total_grows l (length l - k) k (omega arith)))
 
 -- ---- parts
 
@@ -92,6 +93,10 @@ unfolding sizes_of cut_mesh
 total-cut [] = refl
 total-cut (e ∷ es) = ap (λ (n : ℕ). length (cut e) + n) (total-cut es) ∙ sym (length-append (cut e) (cut_mesh es))
 
+sizes_many : (es : List Element) → length (sizes_of es) ≡ length es
+unfolding sizes_of
+sizes_many es = length-map es (λ e. length (cut e))
+
 small_cut : (es : List Element) → T (every proper es) → (k : ℕ) → k < length es → get_or (sizes_of es) k 0 ≤ 6
 unfolding sizes_of
 small_cut [] h k l = absurd (omega arith)
@@ -122,40 +127,39 @@ module _ {v n : ℕ} {t keys sizes : List ℕ} {count : ℕ} {keys' sizes' : Lis
   told : map keyed (take count keys') ≡ cut_mesh b.elements
   told = ap (map keyed) (keys_first b) ∙ keys_tell v n t b.elements b.accepts
 
-  all_told : map keyed keys' ≡ cut_mesh b.elements ++ map keyed (drop count keys')
-  all_told =
-      ap (map keyed) (sym (take-append-drop count keys'))
-      ∙ map-append keyed (take count keys') (drop count keys')
-      ∙ ap (λ ts. ts ++ map keyed (drop count keys')) told
-
   -- parted by the sizes they are the cuts of the elements
-  pub blocks_are : parted (map keyed keys') (take n sizes') ≡ map cut b.elements
+  pub blocks_are : parted (map keyed (take count keys')) (take n sizes') ≡ map cut b.elements
   blocks_are =
-      (λ i. parted (all_told i) (sizes_first b i)) ∙ parted-cut b.elements (map keyed (drop count keys'))
+      (λ i. parted (told i) (sizes_first b i)) ∙ ap (λ ts. parted ts (sizes_of b.elements)) (sym (append-nil (cut_mesh b.elements)))
+      ∙ parted-cut b.elements []
 
-  total-is : total (take n sizes') ≡ count
-  total-is = ap total (sizes_first b) ∙ total-cut b.elements ∙ sym b.count
+  -- all keys and all sizes are there
+  pub keys_enough : tetrahedron_limit ≤ length keys → count ≤ length keys'
+  keys_enough l = omega (arith, keys_few b, keys_kept b l)
 
-  module _ (table : List ℤ) (r : Ranged table v) (key_room : tetrahedron_limit ≤ length keys) (size_room : element_limit ≤ length sizes) where
-    all_ranged : T (every (ranged_tet table) (cut_mesh b.elements))
-    all_ranged = every_implies (numbered v) (ranged_tet table) (tet-ranged table v r) (cut_mesh b.elements) (accepted-numbered v n t b.elements b.accepts)
+  pub sizes_enough : element_limit ≤ length sizes → n ≤ length sizes'
+  sizes_enough l = omega (arith, sizes_kept b l, elements-many, accepted-few v n t b.elements b.accepts)
 
-    key_ranged : (j : ℕ) → j < count → T (ranged_tet table (keyed (get_or keys' j 0)))
+  module _ (table : List ℤ) (r : Ranged table v) where
+    abbrev es : List Element
+    es = b.elements
+
+    abbrev key : ℕ → ℕ
+    key j = get_or (take count keys') j 0
+
+    key_ranged : (j : ℕ) → j < length (cut_mesh es) → T (ranged_tet table (keyed (key j)))
     key_ranged j h =
-        let e = ap (λ ts. get_or ts j (keyed 0)) (sym told) ∙ get_or-map keyed (take count keys') j 0 ∙ ap keyed (get_or-take count keys' j 0 h) in
-        subst (λ u. T (ranged_tet table u)) e
-        (every_index (ranged_tet table) (cut_mesh b.elements) (keyed 0) j all_ranged (omega (arith, b.count)))
+        let all = every_implies (numbered v) (ranged_tet table) (tet-ranged table v r) (cut_mesh es) (accepted-numbered v n t es b.accepts) in
+        let e = ap (λ ts. get_or ts j (keyed 0)) (sym told) ∙ get_or-map keyed (take count keys') j 0 in
+        subst (λ u. T (ranged_tet table u)) e (every_index (ranged_tet table) (cut_mesh es) (keyed 0) j all h)
 
-    size_small : (k : ℕ) → k < n → get_or sizes' k 0 ≤ 6
-    size_small k h =
-        let e = sym (get_or-take n sizes' k 0 h) ∙ ap (λ (l : List ℕ). get_or l k 0) (sizes_first b) in
-        omega (arith, small_cut b.elements (accepted-proper v n t b.elements b.accepts) k (omega (arith, elements-many)))
+    total-is : total (sizes_of es) ≡ length (take count keys')
+    total-is = total-cut es ∙ ap length (sym told) ∙ length-map (take count keys') keyed
 
-    pub blocks_ranged : RangedBlocks table keys' sizes' n
-    blocks_ranged = record {
-      few = omega (arith, elements-many, accepted-few v n t b.elements b.accepts);
-      long = omega (arith, sizes_kept b size_room, elements-many, accepted-few v n t b.elements b.accepts);
-      small = size_small;
-      room = omega (arith, total-is, keys_few b, keys_kept b key_room);
-      ranged = λ j h. key_ranged j (omega (arith, total-is));
-    }
+    pub blocks_ranged : RangedBlocks table (take count keys') (take n sizes')
+    blocks_ranged = rw (sizes_first b) (record {
+      few = omega (arith, sizes_many es, accepted-few v n t es b.accepts);
+      small = λ k h. small_cut es (accepted-proper v n t es b.accepts) k (omega (arith, sizes_many es));
+      room = omega (arith, total-is);
+      ranged = λ j h. key_ranged j (omega (arith, total-cut es));
+    })

@@ -1,6 +1,6 @@
 -- The counts of the sign report: tetrahedron by tetrahedron, and block by block; they add up to the number of tetrahedra.
 -- Assumes nothing.
-use mathlib.Core.Path.{◌≡◌, refl, sym, ap, ◌∙◌}
+use mathlib.Core.Path.{◌≡◌, refl, sym, ap, ◌∙◌, subst}
 use mathlib.Core.Bool.{Bool, true, false, cond, not, ◌&&◌}
 use mathlib.Core.List.{List, [], ◌∷◌, ◌++◌, append-nil, map}
 use Prim.Native.Nat.{ℕ, zero, suc, ◌+◌, ◌≤◌}
@@ -11,37 +11,48 @@ use lib.Dec.{eqb}
 use lib.IntN.{ℤ, pos, negsuc, nat_abs}
 use lib.ListN.{length}
 use lib.Signed.{lt_z}
+use Rattle.std.specs.declared.cmp.Ordering.{Ordering}
+use Rattle.std.specs.declared.cmp.Ordering.TheVariants.{Less, Equal, Greater}
+use Rattle.std.specs.Ordering.{int_cmp}
 use Rattle.laws.specs.Words.{count, every, gather}
 use Rattle.laws.proofs.EveryLaws.{count_append}
 use Rattle.laws.proofs.ListLaws.{gather_append}
 use Rattle.solids.specs.Solids.{Tet, Element}
 use Rattle.solids.specs.Cut.{cut, cut_mesh}
 use Rattle.signs.specs.declared.SignCounts.{SignCounts}
-use Rattle.signs.specs.declared.counting.Sign.{Sign}
-use Rattle.signs.specs.declared.counting.Sign.TheVariants.{Positive, Zero, Negative}
-use Rattle.signs.specs.declared.counting.Tally.{Tally}
 use Rattle.signs.specs.Signs.{volume_in, is_positive, is_zero, is_negative, sound, sign_counts}
-use Rattle.signs.specs.SignLoops.{block_counts, sign_of, with_sign, Tallied, all_positive, of_counts, FewSums, Summed}
+use Rattle.signs.specs.SignLoops.{block_counts, with_sign, Tallied, all_positive, of_counts, FewSums, Summed}
 
 -- ---- a sign
 
-abbrev pub is_plus : Sign → Bool
-is_plus Positive = true
-is_plus Zero = false
-is_plus Negative = false
+-- how a number compares with 0
+abbrev sign_of : ℤ → Ordering
+sign_of (pos zero) = Equal
+sign_of (pos (suc n)) = Greater
+sign_of (negsuc n) = Less
 
-abbrev is_null : Sign → Bool
-is_null Positive = false
-is_null Zero = true
-is_null Negative = false
+compared : (z : ℤ) → int_cmp z (pos 0) ≡ sign_of z
+compared (pos zero) = refl
+compared (pos (suc n)) = rw (le-ltb (suc n) 0 (omega arith), lt-ltb 0 (suc n) (omega arith))
+compared (negsuc n) = refl
 
-abbrev pub is_minus : Sign → Bool
-is_minus Positive = false
-is_minus Zero = false
-is_minus Negative = true
+abbrev is_plus : Ordering → Bool
+is_plus Greater = true
+is_plus Equal = false
+is_plus Less = false
+
+abbrev is_null : Ordering → Bool
+is_null Greater = false
+is_null Equal = true
+is_null Less = false
+
+abbrev is_minus : Ordering → Bool
+is_minus Greater = false
+is_minus Equal = false
+is_minus Less = true
 
 -- the three tests of a number are those of its sign
-pub plus_sign : (z : ℤ) → lt_z (pos 0) z ≡ is_plus (sign_of z)
+plus_sign : (z : ℤ) → lt_z (pos 0) z ≡ is_plus (sign_of z)
 plus_sign (pos zero) = refl
 plus_sign (pos (suc n)) = lt-ltb 0 (suc n) (omega arith)
 plus_sign (negsuc n) = refl
@@ -51,13 +62,13 @@ null_sign (pos zero) = refl
 null_sign (pos (suc n)) = ne_eqb (suc n) 0 (λ e. omega arith)
 null_sign (negsuc n) = ne_eqb (suc n) 0 (λ e. omega arith)
 
-pub minus_sign : (z : ℤ) → lt_z z (pos 0) ≡ is_minus (sign_of z)
+minus_sign : (z : ℤ) → lt_z z (pos 0) ≡ is_minus (sign_of z)
 minus_sign (pos zero) = refl
 minus_sign (pos (suc n)) = le-ltb (suc n) 0 (omega arith)
 minus_sign (negsuc n) = refl
 
 module _ (table : List ℤ) (t : Tet ℕ) where
-  abbrev sign_in : Sign
+  abbrev sign_in : Ordering
   sign_in = sign_of (volume_in table t)
 
   positive_by_sign : is_positive table t ≡ is_plus sign_in
@@ -73,20 +84,20 @@ module _ (table : List ℤ) (t : Tet ℕ) where
   negative_by_sign = minus_sign (volume_in table t)
 
 -- one count grows by one, that of the sign
-record OneMore (s : Sign) (c r : Tally) : Type 0 where
+record OneMore (s : Ordering) (c r : SignCounts) : Type 0 where
   positive : r.positive ≡ c.positive + cond (is_plus s) 1 0
   zero : r.zero ≡ c.zero + cond (is_null s) 1 0
   negative : r.negative ≡ c.negative + cond (is_minus s) 1 0
 
-one_more : (s : Sign) (c : Tally) → OneMore s c (with_sign s c)
-one_more Positive c = record { positive = refl; zero = omega arith; negative = omega arith }
-one_more Zero c = record { positive = omega arith; zero = refl; negative = omega arith }
-one_more Negative c = record { positive = omega arith; zero = omega arith; negative = refl }
+one_more : (s : Ordering) (c : SignCounts) → OneMore s c (with_sign s c)
+one_more Greater c = record { positive = refl; zero = omega arith; negative = omega arith }
+one_more Equal c = record { positive = omega arith; zero = refl; negative = omega arith }
+one_more Less c = record { positive = omega arith; zero = omega arith; negative = refl }
 
-one_sign : (s : Sign) → cond (is_plus s) 1 0 + cond (is_null s) 1 0 + cond (is_minus s) 1 0 ≡ 1
-one_sign Positive = refl
-one_sign Zero = refl
-one_sign Negative = refl
+one_sign : (s : Ordering) → cond (is_plus s) 1 0 + cond (is_null s) 1 0 + cond (is_minus s) 1 0 ≡ 1
+one_sign Greater = refl
+one_sign Equal = refl
+one_sign Less = refl
 
 and_false : (b : Bool) → (b && false) ≡ false
 and_false true = refl
@@ -105,30 +116,31 @@ count_most P (x ∷ l) = go (P x) (count_most P l)
     go true h = omega arith
     go false h = omega arith
 
-module _ (table : List ℤ) where
-  pub tallied_none : Tallied table [] (record { positive = 0; zero = 0; negative = 0 })
-  tallied_none = record { positive = refl; zero = refl; negative = refl }
+-- nothing is counted
+abbrev pub zeros : SignCounts
+zeros = record { positive = 0; zero = 0; negative = 0; unsound = 0 }
 
+module _ (table : List ℤ) where
   -- one tetrahedron more
-  pub tallied_next : {ts : List (Tet ℕ)} {c : Tally} → Tallied table ts c → (t : Tet ℕ) → Tallied table (ts ++ (t ∷ [])) (with_sign (sign_of (volume_in table t)) c)
+  pub tallied_next : {ts : List (Tet ℕ)} {c : SignCounts} → Tallied table ts c → (t : Tet ℕ) → Tallied table (ts ++ (t ∷ [])) (with_sign (int_cmp (volume_in table t) (pos 0)) c)
   tallied_next {ts} {c} h t =
       let m = one_more (sign_of (volume_in table t)) c in
-      record {
+      subst (λ o. Tallied table (ts ++ (t ∷ [])) (with_sign o c)) (sym (compared (volume_in table t))) (record {
         positive = m.positive ∙ next (is_positive table) h.positive (positive_by_sign table t);
         zero = m.zero ∙ next (is_zero table) h.zero (zero_by_sign table t);
         negative = m.negative ∙ next (is_negative table) h.negative (negative_by_sign table t);
-      }
+      })
     where
       next : (P : Tet ℕ → Bool) {n : ℕ} {b : Bool} → n ≡ count P ts → P t ≡ b → n + cond b 1 0 ≡ count P (ts ++ (t ∷ []))
       next P e f = (λ i. e i + cond (sym f i) 1 0) ∙ sym (count_last P ts t)
 
   -- no count is above the number of tetrahedra
-  pub record AtMost (n : ℕ) (c : Tally) : Type 0 where
+  pub record AtMost (n : ℕ) (c : SignCounts) : Type 0 where
     pub positive : c.positive ≤ n
     pub zero : c.zero ≤ n
     pub negative : c.negative ≤ n
 
-  pub tallied_most : {ts : List (Tet ℕ)} {c : Tally} → Tallied table ts c → AtMost (length ts) c
+  pub tallied_most : {ts : List (Tet ℕ)} {c : SignCounts} → Tallied table ts c → AtMost (length ts) c
   tallied_most {ts} h = record {
     positive = rw h.positive (count_most (is_positive table) ts);
     zero = rw h.zero (count_most (is_zero table) ts);
@@ -156,11 +168,11 @@ module _ (table : List ℤ) where
       negatives : ℕ
       negatives = count (is_negative table) ts
 
-      go : (s : Sign) → (eqb zeros 0 && eqb negatives 0) ≡ every (is_positive table) ts
+      go : (s : Ordering) → (eqb zeros 0 && eqb negatives 0) ≡ every (is_positive table) ts
           → (eqb (cond (is_null s) 1 0 + zeros) 0 && eqb (cond (is_minus s) 1 0 + negatives) 0) ≡ (is_plus s && every (is_positive table) ts)
-      go Positive h = (λ i. eqb (zero-add zeros i) 0 && eqb (zero-add negatives i) 0) ∙ h
-      go Zero h = ap (λ b. b && eqb (0 + negatives) 0) (ne_eqb (1 + zeros) 0 (omega arith))
-      go Negative h = ap (λ b. eqb (0 + zeros) 0 && b) (ne_eqb (1 + negatives) 0 (omega arith)) ∙ and_false (eqb (0 + zeros) 0)
+      go Greater h = (λ i. eqb (zero-add zeros i) 0 && eqb (zero-add negatives i) 0) ∙ h
+      go Equal h = ap (λ b. b && eqb (0 + negatives) 0) (ne_eqb (1 + zeros) 0 (omega arith))
+      go Less h = ap (λ b. eqb (0 + zeros) 0 && b) (ne_eqb (1 + negatives) 0 (omega arith)) ∙ and_false (eqb (0 + zeros) 0)
 
   -- the four counts of blocks, one by one
   record CountsAre (bs : List (List (Tet ℕ))) (r : SignCounts) : Type 0 where
@@ -177,12 +189,12 @@ module _ (table : List ℤ) where
   unfolding block_counts
   from_list h = record { positive = cc; zero = cc; negative = cc; unsound = cc }
 
-  pub counts_none : of_counts (record { positive = 0; zero = 0; negative = 0; unsound = 0 }) ≡ block_counts table []
+  pub counts_none : of_counts zeros ≡ block_counts table []
   unfolding block_counts
   counts_none = refl
 
   -- one block: its tetrahedra by sign, and 1 where it is not sound
-  module _ {ts : List (Tet ℕ)} {c : Tally} (h : Tallied table ts c) where
+  module _ {ts : List (Tet ℕ)} {c : SignCounts} (h : Tallied table ts c) where
     alone : (P : Tet ℕ → Bool) {m : ℕ} → m ≡ count P ts → m ≡ count P (gather (λ b. b) (ts ∷ []))
     alone P p = p ∙ ap (count P) (sym (append-nil ts))
 
@@ -205,6 +217,9 @@ module _ (table : List ℤ) where
     pub zero : c.zero ≤ m
     pub negative : c.negative ≤ m
     pub unsound : c.unsound ≤ m
+
+  pub none_bounded : Bounded 0 zeros
+  none_bounded = record { positive = omega arith; zero = omega arith; negative = omega arith; unsound = omega arith }
 
   pub one_bounded : (ts : List (Tet ℕ)) {r : SignCounts} → length ts ≤ 6 → of_counts r ≡ block_counts table (ts ∷ []) → Bounded 6 r
   one_bounded ts few e =

@@ -8,7 +8,7 @@ use native.Mathlib.Omega.{arith}
 use lib.IntN.{ℤ}
 use lib.ListN.{length}
 use Rattle.limits.specs.Limits.{element_limit, vertex_limit, vertex_width, element_width}
-use Rattle.faults.specs.declared.Finding.TheVariants.{Clean}
+use Rattle.std.specs.Prelude.{Ok}
 use Rattle.faults.specs.Refusals.{Verdict, accepted, refused, and_then}
 use Rattle.volume.specs.Volume.{point_in_range, point_at}
 use Rattle.solids.specs.Solids.{Element}
@@ -26,7 +26,7 @@ pub record SignAccepted (v n : ℕ) (t : List ℕ) (table : List ℤ) : Type 0 w
   pub vertex_room : vertex_width * v ≤ length table
   pub element_room : element_width * n ≤ length t
   pub ranged : (k : ℕ) → k < v → point_in_range (point_at table (k + 1)) ≡ true
-  pub clean : (k : ℕ) → k < n → record_finding v (record_at t k) ≡ Clean
+  pub clean : (k : ℕ) → k < n → record_finding v (record_at t k) ≡ Ok tt
 
 -- what an accepted report is: the elements and the vertex table are accepted, and these are the counts
 pub record Reported (v n : ℕ) (t : List ℕ) (table : List ℤ) (counts : List ℕ) : Type 0 where

@@ -1,15 +1,14 @@
 -- What the sixfold volume answers of four vertices within the limits.
 -- Assumes nothing.
-use mathlib.Core.Path.{◌≡◌, sym, ap, ◌∙◌, subst}
-use mathlib.Core.Bool.{Bool, true, false}
+use mathlib.Core.Path.{◌≡◌, ap, ◌∙◌}
+use mathlib.Core.Bool.{Bool, true}
 use mathlib.Core.List.{List, [], ◌∷◌}
 use Prim.Native.Nat.{ℕ}
 use lib.Dec.{T}
-use lib.IntN.{ℤ, pos}
+use lib.IntN.{ℤ}
+use Rattle.std.specs.Prelude.{Result, Ok}
 use Rattle.faults.specs.declared.Refusal.{Refusal}
 use Rattle.volume.specs.declared.Point.{Point}
-use Rattle.volume.specs.declared.VolumeAnswer.{VolumeAnswer}
-use Rattle.volume.specs.declared.VolumeAnswer.TheVariants.{Done, Refused}
 use Rattle.volume.specs.Volume.{VolumeDone, point_in_range, point_at, sixfold_at}
 use Rattle.volume.proofs.Theorems.{done_in_range}
 use Rattle.laws.specs.Words.{every}
@@ -19,19 +18,6 @@ use Rattle.tets.specs.declared.Tet as code
 use Rattle.tets.specs.Tets.{tet_of}
 use Rattle.signs.specs.Signs.{volume_in}
 use Rattle.signs.specs.SignLoops.{ranged_tet}
-
--- an answer is not refused
-abbrev pub is_done : VolumeAnswer → Bool
-is_done (Done z) = true
-is_done (Refused r) = false
-
--- the volume of an answer, 0 where it is refused
-abbrev pub volume_from : VolumeAnswer → ℤ
-volume_from (Done z) = z
-volume_from (Refused r) = pos 0
-
-pub never_refused : {A : Type 0} {r : VolumeAnswer} {z : ℤ} {f : Refusal} → r ≡ Refused f → r ≡ Done z → A
-never_refused p q = absurd (subst T (ap is_done (sym q ∙ p)) tt)
 
 -- the four points of a tetrahedron within the limits
 record Four (table : List ℤ) (a b c d : ℕ) : Type 0 where
@@ -55,10 +41,11 @@ four_points table a b c d h =
     }
 
 module _ (table : List ℤ) (t : code.Tet) (h : T (ranged_tet table (tet_of t))) where
-  pub volume_done : {a b c d : Point} → a ≡ point_at table t.0.0 → b ≡ point_at table t.1.0 → c ≡ point_at table t.2.0
-      → d ≡ point_at table t.3.0 → {r : VolumeAnswer} → VolumeDone a b c d r → r ≡ Done (volume_in table (tet_of t))
+  pub volume_done : {i j k l : ℕ} → i ≡ t.0.0 → j ≡ t.1.0 → k ≡ t.2.0 → l ≡ t.3.0
+      → {a b c d : Point} → a ≡ point_at table i → b ≡ point_at table j → c ≡ point_at table k → d ≡ point_at table l
+      → {r : Result ℤ Refusal} → VolumeDone a b c d r → r ≡ Ok (volume_in table (tet_of t))
   unfolding volume_in sixfold_at
-  volume_done p q u v w =
+  volume_done i j k l p q u v w =
       let f = four_points table t.0.0 t.1.0 t.2.0 t.3.0 h in
       done_in_range (point_at table t.0.0) (point_at table t.1.0) (point_at table t.2.0) (point_at table t.3.0)
-      f.at_a f.at_b f.at_c f.at_d (rw (p, q, u, v) at w)
+      f.at_a f.at_b f.at_c f.at_d (rw (p ∙ ap (point_at table) i, q ∙ ap (point_at table) j, u ∙ ap (point_at table) k, v ∙ ap (point_at table) l) at w)

@@ -1,15 +1,14 @@
 -- Shapes that only the functions of the private module counting want; proofs/PartedLaws.antt says that an accepted table's blocks are so, and
 -- proofs/SignCountLaws.antt what the counts have to do with the page's definitions.
-use Rattle.std.specs.Prelude.{◌≡◌, Bool, not, ◌&&◌, List, [], ◌∷◌, ℕ, zero, suc, ◌+◌, ◌≤◌, ◌<◌, T, eqb, ℤ, pos, negsuc, length, take, drop, get_or}
+use Rattle.std.specs.Prelude.{◌≡◌, Bool, not, ◌&&◌, List, [], ◌∷◌, ℕ, ◌+◌, ◌≤◌, ◌<◌, T, eqb, ℤ, length, take, drop, get_or}
+use Rattle.std.specs.declared.cmp.Ordering.{Ordering}
+use Rattle.std.specs.declared.cmp.Ordering.TheVariants.{Less, Equal, Greater}
 use Rattle.limits.specs.Limits.{element_limit, tetrahedron_limit}
 use Rattle.laws.specs.Words.{count, every, gather}
 use Rattle.volume.specs.Volume.{point_in_range, point_at}
 use Rattle.solids.specs.Solids.{Vertex, Tet, of_tet}
 use Rattle.tets.specs.Tets.{keyed}
 use Rattle.signs.specs.declared.SignCounts.{SignCounts}
-use Rattle.signs.specs.declared.counting.Sign.{Sign}
-use Rattle.signs.specs.declared.counting.Sign.TheVariants.{Positive, Zero, Negative}
-use Rattle.signs.specs.declared.counting.Tally.{Tally}
 use Rattle.signs.specs.Signs.{is_positive, is_zero, is_negative, sound}
 
 -- ---- blocks
@@ -33,13 +32,12 @@ pub record RangedBlock (table : List ℤ) (block : List ℕ) : Type 0 where
   pub few : length block ≤ 6
   pub ranged : (j : ℕ) → j < length block → T (ranged_tet table (keyed (get_or block j 0)))
 
--- n blocks, at most 1,024 and each of at most six, whose keys are there and are of tetrahedra within the limits
-pub record RangedBlocks (table : List ℤ) (keys sizes : List ℕ) (n : ℕ) : Type 0 where
-  pub few : n ≤ element_limit
-  pub long : n ≤ length sizes
-  pub small : (k : ℕ) → k < n → get_or sizes k 0 ≤ 6
-  pub room : total (take n sizes) ≤ length keys
-  pub ranged : (j : ℕ) → j < total (take n sizes) → T (ranged_tet table (keyed (get_or keys j 0)))
+-- at most 1,024 blocks, each of at most six, whose keys are there and are of tetrahedra within the limits
+pub record RangedBlocks (table : List ℤ) (keys sizes : List ℕ) : Type 0 where
+  pub few : length sizes ≤ element_limit
+  pub small : (k : ℕ) → k < length sizes → get_or sizes k 0 ≤ 6
+  pub room : total sizes ≤ length keys
+  pub ranged : (j : ℕ) → j < total sizes → T (ranged_tet table (keyed (get_or keys j 0)))
 
 -- positive, zero and negative tetrahedra of blocks, and unsound ones of these
 unfoldable pub block_counts : List ℤ → List (List (Tet Vertex)) → List ℕ
@@ -47,36 +45,28 @@ block_counts table bs =
     let ts = gather (λ b. b) bs in
     count (is_positive table) ts ∷ count (is_zero table) ts ∷ count (is_negative table) ts ∷ count (λ b. not (sound table b)) bs ∷ []
 
--- ---- a sign
-
--- the sign of a number
-abbrev pub sign_of : ℤ → Sign
-sign_of (pos zero) = Zero
-sign_of (pos (suc n)) = Positive
-sign_of (negsuc n) = Negative
-
--- one tetrahedron more of a sign
-abbrev pub with_sign : Sign → Tally → Tally
-with_sign Positive c = record { positive = c.positive + 1; zero = c.zero; negative = c.negative }
-with_sign Zero c = record { positive = c.positive; zero = c.zero + 1; negative = c.negative }
-with_sign Negative c = record { positive = c.positive; zero = c.zero; negative = c.negative + 1 }
-
 -- ---- counts
 
+-- one tetrahedron more, by how its volume compares with 0
+abbrev pub with_sign : Ordering → SignCounts → SignCounts
+with_sign Greater c = record { positive = c.positive + 1; zero = c.zero; negative = c.negative; unsound = c.unsound }
+with_sign Equal c = record { positive = c.positive; zero = c.zero + 1; negative = c.negative; unsound = c.unsound }
+with_sign Less c = record { positive = c.positive; zero = c.zero; negative = c.negative + 1; unsound = c.unsound }
+
 -- each count is below six, so that one more of a block has room
-pub record Few (c : Tally) : Type 0 where
+pub record Few (c : SignCounts) : Type 0 where
   pub positive : c.positive < 6
   pub zero : c.zero < 6
   pub negative : c.negative < 6
 
 -- the counts are those of these tetrahedra
-pub record Tallied (table : List ℤ) (ts : List (Tet Vertex)) (c : Tally) : Type 0 where
+pub record Tallied (table : List ℤ) (ts : List (Tet Vertex)) (c : SignCounts) : Type 0 where
   pub positive : c.positive ≡ count (is_positive table) ts
   pub zero : c.zero ≡ count (is_zero table) ts
   pub negative : c.negative ≡ count (is_negative table) ts
 
 -- none is zero or negative
-abbrev pub all_positive : Tally → Bool
+abbrev pub all_positive : SignCounts → Bool
 all_positive c = eqb c.zero 0 && eqb c.negative 0
 
 -- the four counts as a list

@@ -1,14 +1,14 @@
 -- The sign report: a table is judged as for cutting, without the output; then the vertex table: ROOM, RANGE; then four counts.
-use Rattle.std.specs.Prelude.{◌≡◌, Bool, true, false, not, List, [], ◌∷◌, ℕ, eqb, ℤ, pos, nat_abs}
+use Rattle.std.specs.Prelude.{◌≡◌, Result, Ok, Err, Bool, true, false, not, List, [], ◌∷◌, ℕ, eqb, ℤ, pos, nat_abs}
 use Rattle.std.specs.Int.Signed.{lt_z}
 use Rattle.laws.specs.Words.{count, every}
+use Rattle.faults.specs.declared.Refusal.{Refusal}
 use Rattle.faults.specs.Refusals.{Verdict, accepted, refused, and_then, answer_of}
 use Rattle.volume.specs.Volume.{sixfold_at}
 use Rattle.vertices.specs.Vertices.{vertices_judged}
 use Rattle.solids.specs.Solids.{Vertex, Tet, tet, Element}
 use Rattle.solids.specs.Cut.{cut, cut_mesh}
-use Rattle.signs.specs.declared.SignAnswer.{SignAnswer}
-use Rattle.signs.specs.declared.SignAnswer.TheVariants.{Done, Refused}
+use Rattle.signs.specs.declared.SignCounts.{SignCounts}
 use Rattle.judging.specs.Judge.{judged}
 
 -- the sixfold volume of a tetrahedron of the cut, its vertices taken from the vertex table
@@ -46,12 +46,12 @@ signs_of v n t table =
     accepted (sign_counts points es)
 
 -- the answer of the sign report as a verdict
-abbrev pub sign_verdict : SignAnswer → Verdict (List ℕ)
-sign_verdict (Done c) = accepted (c.positive ∷ c.zero ∷ c.negative ∷ c.unsound ∷ [])
-sign_verdict (Refused r) = refused r
+abbrev pub sign_verdict : Result SignCounts Refusal → Verdict (List ℕ)
+sign_verdict (Ok c) = accepted (c.positive ∷ c.zero ∷ c.negative ∷ c.unsound ∷ [])
+sign_verdict (Err r) = refused r
 
 -- the sign report: the answer for every two counts and every two tables
-pub record SignDone (v n : ℕ) (t : List ℕ) (table : List ℤ) (r : SignAnswer) : Type 0 where
+pub record SignDone (v n : ℕ) (t : List ℕ) (table : List ℤ) (r : Result SignCounts Refusal) : Type 0 where
   pub answer : answer_of (0 ∷ 0 ∷ 0 ∷ 0 ∷ []) (sign_verdict r) ≡ answer_of (0 ∷ 0 ∷ 0 ∷ 0 ∷ []) (signs_of v n t table)
 
 -- accepted

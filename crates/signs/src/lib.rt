@@ -3,27 +3,21 @@
 
 ghost use Rattle.signs.specs.Signs.{SignDone};
 
-use blocks::{BlocksAnswer, cut_blocks};
-use faults::{Refusal, Ruling};
+use blocks::cut_blocks;
+use counting::count_signs;
+use faults::Refusal;
 use limits::{ELEMENT_LIMIT, TETRAHEDRON_LIMIT};
 use vertices::judge_vertices;
 
 mod counting;
 
 // What an accepted sign report counts.
-#[derive(Clone, Copy)]
+#[derive(Clone, Copy, Debug, Default, PartialEq, Eq)]
 pub struct SignCounts {
     pub positive: usize,
     pub zero: usize,
     pub negative: usize,
     pub unsound: usize,
-}
-
-// What a sign report answers.
-#[derive(Clone, Copy)]
-pub enum SignAnswer {
-    Done(SignCounts),
-    Refused(Refusal),
 }
 
 // Counts the signs of a cut: judges the table, then the vertex table, ROOM and RANGE.
@@ -32,21 +26,12 @@ pub fn sign_report(
     element_count: usize,
     elements: &[u16],
     vertices: &[i32],
-) -> SignAnswer
+) -> Result<SignCounts, Refusal>
     ensures { SignDone vertex_count element_count elements.now vertices.now result }
 {
-    let mut keys = [0u64; TETRAHEDRON_LIMIT];
-    let mut sizes = [0u8; ELEMENT_LIMIT];
-    match cut_blocks(vertex_count, element_count, elements, &mut keys, &mut sizes) {
-        BlocksAnswer::Refused(refusal) => SignAnswer::Refused(refusal),
-        BlocksAnswer::Done(_) => match judge_vertices(vertices, vertex_count) {
-            Ruling::Refused(refusal) => SignAnswer::Refused(refusal),
-            Ruling::Passed => SignAnswer::Done(counting::count_signs(
-                &keys,
-                &sizes,
-                element_count,
-                vertices,
-            )),
-        },
-    }
+    let mut keys = [0; TETRAHEDRON_LIMIT];
+    let mut sizes = [0; ELEMENT_LIMIT];
+    let count = cut_blocks(vertex_count, element_count, elements, &mut keys, &mut sizes)?;
+    judge_vertices(vertices, vertex_count)?;
+    Ok(count_signs(&keys[..count], &sizes[..element_count], vertices))
 }

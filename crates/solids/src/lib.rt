@@ -3,15 +3,15 @@
 #![tactic(auto)]
 
 // A local corner number, from 1; 0 is none.
-#[derive(Clone, Copy)]
+#[derive(Clone, Copy, Debug, PartialEq, Eq, PartialOrd, Ord)]
 pub struct Place(pub u8);
 
 // A global vertex number, from 1.
-#[derive(Clone, Copy)]
+#[derive(Clone, Copy, Debug, PartialEq, Eq, PartialOrd, Ord)]
 pub struct Vertex(pub u16);
 
 // The page's four solids.
-#[derive(Clone, Copy)]
+#[derive(Clone, Copy, Debug, PartialEq, Eq)]
 pub enum Solid {
     Tetrahedron,
     Pyramid,

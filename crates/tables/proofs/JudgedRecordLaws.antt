@@ -1,38 +1,42 @@
 -- The verdict on the records of a table, test by test, in the page's order; what an acceptance tells, and that no refusal is JOIN.
 -- Assumes nothing.
-use mathlib.Core.Path.{◌≡◌, ap, ◌∙◌, subst}
+use mathlib.Core.Path.{◌≡◌, ap, subst}
 use mathlib.Core.Bool.{Bool, true, false, cond, not, ◌&&◌}
 use mathlib.Core.List.{List}
-use Prim.Native.Nat.{ℕ, ◌*◌, ◌-◌, pred, ◌≤◌, ◌<◌}
-use native.Mathlib.Numerals.{sub-one}
+use Prim.Native.Nat.{ℕ, suc, ◌+◌, ◌*◌, pred, ◌≤◌, ◌<◌}
+use native.Mathlib.Numerals.{add-one}
 use native.Mathlib.Omega.{arith}
 use lib.Dec.{eqb, ltb}
 use lib.ListN.{length}
 use borrow.Author.Tests.{lt-ltb, le-ltb, ltb-false}
 use Rattle.limits.specs.Limits.{element_limit, vertex_limit, element_width}
 use Rattle.laws.specs.Words.{some, distinct}
+use Rattle.laws.proofs.SearchLaws.{least_start, least_more, least_found}
 use Rattle.faults.specs.declared.Fault.{Fault}
 use Rattle.faults.specs.declared.Fault.TheVariants as fault
-use Rattle.faults.specs.declared.Finding.{Finding}
-use Rattle.faults.specs.declared.Finding.TheVariants.{Clean, Found}
+use Rattle.std.specs.Prelude.{Ok, Err}
 use Rattle.faults.specs.declared.Refusal.{Refusal}
 use Rattle.faults.specs.Refusals.{number_of, Verdict, accepted, refused, refuse, refuse_if}
 use Rattle.faults.proofs.RefusalLaws.{Passed, passed, not-accepted}
 use Rattle.solids.specs.Solids.{Element}
 use Rattle.records.specs.Record.{kind_of, used_of, spare_of, is_kind, stray_vertex, not_zero, record_finding, record_count, record_at, first_elements}
-use Rattle.tables.specs.JudgedRecords.{fault_in, bad_record, records_judged, FaultlessTable}
+use Rattle.tables.specs.JudgedRecords.{is_fault, fault_in, bad_record, records_judged, FaultlessTable}
 use Rattle.tables.proofs.CleanRecordLaws.{records_whole}
 
--- a refusal made of what the code found
-pub record_refused : (t : List ℕ) (limit k : ℕ) (e : List ℕ) (g : Finding) (f : Fault) → e ≡ record_at t (k - 1) → g ≡ record_finding limit e → f ≡ fault_in g
-    → ◌≡◌ {A = Refusal} (record { fault = f; place = k; second = 0 }) (refuse (fault_in (record_finding limit (record_at t (pred k)))) k)
-record_refused t limit k e g f p q r =
-    ap (λ (x : Fault). refuse x k)
-    (r ∙ ap fault_in (q ∙ ap (record_finding limit) (p ∙ ap (record_at t) (sub-one k))))
+-- ---- the search for the first record with a fault
 
--- a search that found nothing
-pub none : (k : ℕ) {m : ℕ} → k ≡ m → k ≤ 0 → m ≡ 0
-none k e h = omega arith
+module _ (v : ℕ) (t : List ℕ) where
+  pub bad_record_start : bad_record v t 0 ≡ 0
+  unfolding bad_record
+  bad_record_start = least_start (λ k. is_fault (record_finding v (record_at t k)))
+
+  pub bad_record_more : (k : ℕ) → bad_record v t k ≡ 0 → record_finding v (record_at t k) ≡ Ok tt → bad_record v t (k + 1) ≡ 0
+  unfolding bad_record
+  bad_record_more k h e = least_more (λ k. is_fault (record_finding v (record_at t k))) h (ap is_fault e)
+
+  pub bad_record_found : (k n : ℕ) {f : Fault} → bad_record v t k ≡ 0 → k < n → record_finding v (record_at t k) ≡ Err f → bad_record v t n ≡ suc k
+  unfolding bad_record
+  bad_record_found k n h l e = least_found (λ k. is_fault (record_finding v (record_at t k))) h (ap is_fault e) l
 
 -- ---- the tests
 
@@ -56,14 +60,17 @@ module _ (v n : ℕ) (t : List ℕ) where
         unfolding record_count
         long = omega arith
 
-        pub bad_record_refused : (k : ℕ) → k ≡ bad_record v t n → 0 < k → records_judged v n t ≡ refused (refuse (fault_in (record_finding v (record_at t (pred k)))) k)
+        pub record_refused : (k : ℕ) {f : Fault} → bad_record v t k ≡ 0 → k < n → record_finding v (record_at t k) ≡ Err f → records_judged v n t ≡ refused (refuse f (k + 1))
         unfolding records_judged
-        bad_record_refused k e h =
-            rw (le-ltb vertex_limit v a, le-ltb element_limit n b, le-ltb (length t) (element_width * n) long, ← e, lt-ltb 0 k h)
+        record_refused k h l e =
+            rw (le-ltb vertex_limit v a, le-ltb element_limit n b, le-ltb (length t) (element_width * n) long, bad_record_found v t k n h l e, lt-ltb 0 (suc k) (omega arith), e, add-one k)
 
         pub all_clean : bad_record v t n ≡ 0 → records_judged v n t ≡ accepted (first_elements t n)
         unfolding records_judged
         all_clean d = rw (le-ltb vertex_limit v a, le-ltb element_limit n b, le-ltb (length t) (element_width * n) long, d)
+
+-- what the code's loop and its returns need
+pub ruleset judging = (bad_record_start, bad_record_more, too_many_vertices, too_many_elements, too_short, record_refused, all_clean)
 
 -- ---- an acceptance
 
@@ -135,7 +142,7 @@ found_early limit r =
     go (not (eqb (length r) element_width && is_kind (kind_of r))) (some (stray_vertex limit) (used_of r)) (some not_zero (spare_of r)) (not (distinct (used_of r)))
   where
     go : (a b c d : Bool)
-        → number_of (fault_in (cond a (Found fault.Kind) (cond b (Found fault.Vertex) (cond c (Found fault.Spare) (cond d (Found fault.Repeat) Clean))))) < 14
+        → number_of (fault_in (cond a (Err fault.Kind) (cond b (Err fault.Vertex) (cond c (Err fault.Spare) (cond d (Err fault.Repeat) (Ok tt)))))) < 14
     go true b c d = omega arith
     go false true c d = omega arith
     go false false true d = omega arith

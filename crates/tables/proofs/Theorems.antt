@@ -5,7 +5,7 @@ use mathlib.Core.List.{List}
 use Prim.Native.Nat.{ℕ}
 use Rattle.faults.specs.declared.Fault.TheVariants.{Join}
 use Rattle.faults.specs.declared.Refusal.{Refusal}
-use Rattle.faults.specs.declared.Ruling.{Ruling}
+use Rattle.std.specs.Prelude.{Result}
 use Rattle.faults.specs.Refusals.{accepted, refused, ruled}
 use Rattle.solids.specs.Solids.{Element}
 use Rattle.records.specs.Record.{first_elements}
@@ -13,7 +13,7 @@ use Rattle.tables.specs.JudgedRecords.{records_judged, FaultlessTable}
 use Rattle.tables.proofs.JudgedRecordLaws as JudgedRecordLaws
 
 -- `judge_records`: two answers that the contract allows are equal
-pub judge_records_unique : (v n : ℕ) (t : List ℕ) (r s : Ruling) → r ≡ ruled (records_judged v n t) → s ≡ ruled (records_judged v n t) → r ≡ s
+pub judge_records_unique : (v n : ℕ) (t : List ℕ) (r s : Result (Unit {0}) Refusal) → r ≡ ruled (records_judged v n t) → s ≡ ruled (records_judged v n t) → r ≡ s
 judge_records_unique v n t r s e f = e ∙ sym f
 
 -- where the records pass they are whole and without a fault, and the elements are theirs

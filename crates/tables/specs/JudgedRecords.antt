@@ -1,25 +1,23 @@
 -- Judging the records of a table: MANY for vertices, then elements; ROOM for the element table; each element in order: KIND, VERTEX, SPARE, REPEAT.
-use Rattle.std.specs.Prelude.{Bool, true, false, List, ◌≡◌, ℕ, ◌*◌, pred, ◌≤◌, ltb, length}
+use Rattle.std.specs.Prelude.{Bool, true, false, List, ◌≡◌, ℕ, ◌*◌, pred, ◌≤◌, ltb, length, Result, Ok, Err}
 use Rattle.limits.specs.Limits.{vertex_limit, element_limit, element_width}
 use Rattle.laws.specs.Searches.{least}
 use Rattle.faults.specs.declared.Fault.{Fault}
 use Rattle.faults.specs.declared.Fault.TheVariants.{Many, Room, Kind}
-use Rattle.faults.specs.declared.Finding.{Finding}
-use Rattle.faults.specs.declared.Finding.TheVariants.{Clean, Found}
 use Rattle.faults.specs.Refusals.{Verdict, accepted, refuse, refuse_if}
 use Rattle.solids.specs.Solids.{Element}
 use Rattle.records.specs.Record.{record_finding, record_at, first_elements}
 use Rattle.records.specs.WholeRecords.{WholeTable}
 
 -- a finding is a fault
-abbrev pub is_fault : Finding → Bool
-is_fault Clean = false
-is_fault (Found f) = true
+abbrev pub is_fault : Result (Unit {0}) Fault → Bool
+is_fault (Ok u) = false
+is_fault (Err f) = true
 
 -- the fault that was found
-abbrev pub fault_in : Finding → Fault
-fault_in Clean = Kind
-fault_in (Found f) = f
+abbrev pub fault_in : Result (Unit {0}) Fault → Fault
+fault_in (Ok u) = Kind
+fault_in (Err f) = f
 
 -- the number, from 1, of the first of n elements whose record has a fault, or 0
 unfoldable pub bad_record : ℕ → List ℕ → ℕ → ℕ

@@ -1,15 +1,17 @@
 -- The lines of a file, judged and kept one after the other: what a line leaves, and what is left after the last.
 -- Assumes nothing.
-use Prim.Native.Nat.{ℕ, ◌+◌, ◌≤◌, ◌<◌, zero-le}
+use Prim.Native.Nat.{ℕ, ◌+◌, ◌≤◌, zero-le}
 use native.Mathlib.Omega.{arith}
 use mathlib.Core.Path.{◌≡◌, refl, sym, ap, ◌∙◌}
 use mathlib.Core.Bool.{Bool, true, false}
 use mathlib.Core.List.{List, [], ◌∷◌, ◌++◌, append-nil}
 use lib.IntN.{ℤ}
-use lib.ListN.{length, take, drop, length-drop}
+use lib.ListN.{length, take, drop, length-append, length-drop}
+use lib.Seq.{drop-append-add}
 use borrow.Author.Tests.{leb-false, le-ltb}
+use Rattle.std.specs.Prelude.{Ok, Result, Err}
 use Rattle.limits.specs.Limits.{line_end, file_limit, vertex_limit, element_limit}
-use Rattle.laws.specs.Pieces.{split, FirstAt}
+use Rattle.laws.specs.Pieces.{piece, split}
 use Rattle.faults.specs.Refusals.{accepted, refused, refuse}
 use Rattle.faults.specs.declared.Fault.{Fault}
 use Rattle.faults.specs.declared.Fault.TheVariants as fault
@@ -21,15 +23,11 @@ use Rattle.format.specs.declared.Role.{Role}
 use Rattle.format.specs.declared.Role.TheVariants.{VertexLine, ElementLine, EndLine, UnknownLine}
 use Rattle.format.specs.declared.ReaderState.{ReaderState}
 use Rattle.format.specs.declared.Rooms.{Rooms}
-use Rattle.format.specs.declared.Line.TheVariants.{Next}
 use Rattle.format.proofs.FileLaws.{line_taken, file-end}
 use Rattle.format.proofs.FileRecordLaws.{vertex_place, element_place, vertex_grows, element_grows, kept-front, records_none, records_line}
+use Rattle.text.specs.declared.ReadCounts.{ReadCounts}
 use Rattle.text.specs.Reading.{verdict_of}
-use Rattle.text.specs.ReadingLoops.{Few, Own, Ready, StoredLine, LineTaken, LineRead, FileRead}
-use Rattle.text.specs.declared.ReadAnswer.{ReadAnswer}
-use Rattle.text.specs.declared.ReadAnswer.TheVariants.{Done, Refused}
-use Rattle.text.specs.declared.file.Step.{Step}
-use Rattle.text.specs.declared.file.Step.TheVariants as step
+use Rattle.text.specs.ReadingLoops.{Own, Ready, StoredLine, LineTaken, FileRead}
 
 -- ---- within the limits
 
@@ -48,56 +46,38 @@ role_limits state EndLine f k = record { few_vertices = k.few_vertices; few_elem
 role_limits state UnknownLine f k = k
 
 -- an accepted line leaves them there
-pub line_limits : (rooms : Rooms) (state : ReaderState) (l : List ℕ) (next : ReaderState) → line_verdict rooms state true l ≡ Next next → Limits state → Limits next
+pub line_limits : (rooms : Rooms) (state : ReaderState) (l : List ℕ) (next : ReaderState) → line_verdict rooms state true l ≡ Ok next → Limits state → Limits next
 unfolding after
 line_limits rooms state l next e k =
     let t = line_taken rooms state l next true e in
     rw t.same (role_limits state (role_of (mark_of l)) t.few k)
 
-pub ready_few : {t : List ℕ} {state : ReaderState} {vertices : List ℤ} {elements : List ℕ} → Ready t state vertices elements → Few state
-ready_few r = record { few = omega (arith, r.few_vertices, r.few_elements) }
-
 -- ---- a line
 
 module _ (t : List ℕ) (rooms : Rooms) (state : ReaderState) (vertices : List ℤ) (elements : List ℕ) (ready : Ready t state vertices elements) where
   -- its records were stored
-  pub line_kept : (r : ℕ) (next : ReaderState) (vertices' : List ℤ) (elements' : List ℕ) → FirstAt line_end t r → r < length t
-      → line_verdict rooms state true (take r t) ≡ Next next → StoredLine (take r t) state vertices elements vertices' elements'
-      → length vertices' ≡ length vertices → length elements' ≡ length elements
-      → LineTaken t rooms state vertices elements next (r + 1) vertices' elements'
-  line_kept r next vertices' elements' k h e s v w =
-      let q = (line_taken rooms state (take r t) next true e).same in
-      let i = line_limits rooms state (take r t) next e (record { few_vertices = ready.few_vertices; few_elements = ready.few_elements }) in
+  pub line_kept : (l u : List ℕ) (next : ReaderState) (vertices' : List ℤ) (elements' : List ℕ) → t ≡ l ++ (line_end ∷ u)
+      → split line_end t ≡ piece l (split line_end u) → line_verdict rooms state true l ≡ Ok next
+      → StoredLine l state vertices elements vertices' elements' → length vertices' ≡ length vertices → length elements' ≡ length elements
+      → LineTaken t rooms state vertices elements next (length l + 1) vertices' elements'
+  line_kept l u next vertices' elements' j k e s v w =
+      let q = (line_taken rooms state l next true e).same in
+      let i = line_limits rooms state l next e (record { few_vertices = ready.few_vertices; few_elements = ready.few_elements }) in
+      let d : drop (length l + 1) t ≡ u = rw j (drop-append-add l (line_end ∷ u) 1) in
       record {
-        line = take r t;
-        cut = k.hit h;
+        line = l;
+        cut = rw d k;
         some = omega arith;
-        inside = omega arith;
+        inside = rw (j, length-append) (omega arith);
         verdict = e;
         own = record { vertex_length = v ∙ ready.own.vertex_length; element_length = w ∙ ready.own.element_length };
         vertex_table =
-            kept-front vertices vertices' _ _ _ s.vertex_table (ap vertex_place q ∙ vertex_grows state (take r t))
+            kept-front vertices vertices' _ _ _ s.vertex_table (ap vertex_place q ∙ vertex_grows state l)
             (omega (arith, ready.own.vertex_length, i.few_vertices));
         element_table =
-            kept-front elements elements' _ _ _ s.element_table (ap element_place q ∙ element_grows state (take r t))
+            kept-front elements elements' _ _ _ s.element_table (ap element_place q ∙ element_grows state l)
             (omega (arith, ready.own.element_length, i.few_elements));
       }
-
--- tables with the same records before the line
-pub line_from : (t : List ℕ) (rooms : Rooms) (state : ReaderState) (vertices vertices' : List ℤ) (elements elements' : List ℕ)
-    → take (vertex_place state) vertices' ≡ take (vertex_place state) vertices → take (element_place state) elements' ≡ take (element_place state) elements
-    → (r : Step) (v : List ℤ) (e : List ℕ) → LineRead t rooms state vertices' elements' r v e → LineRead t rooms state vertices elements r v e
-line_from t rooms state vertices vertices' elements elements' p q (step.Next next n) v e k = record {
-  line = k.line;
-  cut = k.cut;
-  some = k.some;
-  inside = k.inside;
-  verdict = k.verdict;
-  own = k.own;
-  vertex_table = k.vertex_table ∙ rw p;
-  element_table = k.element_table ∙ rw q;
-}
-line_from t rooms state vertices vertices' elements elements' p q (step.No f) v e k = k
 
 -- ---- the lines in order
 
@@ -113,17 +93,11 @@ pub record Reading (file : List ℕ) (rooms : Rooms) (vertices : List ℤ) (elem
 
 module _ (file : List ℕ) (rooms : Rooms) where
   -- a refused file has no records
-  pub refused_read : (r : ReadAnswer) (s : Refusal) → verdict_of r ≡ refused s → refused s ≡ file_verdict rooms file → (vertices : List ℤ) (elements : List ℕ)
+  pub refused_read : (r : Result ReadCounts Refusal) (s : Refusal) → verdict_of r ≡ refused s → refused s ≡ file_verdict rooms file → (vertices : List ℤ) (elements : List ℕ)
       → FileRead file rooms r vertices elements
   unfolding verdict_of
-  refused_read (Done c) s e q vertices elements = let z : ◌≡◌ {A = ℕ} 0 1 = cc in absurd (omega arith)
-  refused_read (Refused s') s e q vertices elements = record {
-    answer = e ∙ q;
-    vertex_table = refl;
-    element_table = refl;
-    vertex_long = zero-le;
-    element_long = zero-le;
-  }
+  refused_read (Ok c) s e q vertices elements = let z : ◌≡◌ {A = ℕ} 0 1 = cc in absurd (omega arith)
+  refused_read (Err s') s e q vertices elements = record { answer = e ∙ q; kept = tt }
 
   -- before the first line
   pub reading-start : (vertices : List ℤ) (elements : List ℕ) → length file ≤ file_limit → Own vertices elements
@@ -140,9 +114,6 @@ module _ (file : List ℕ) (rooms : Rooms) where
   }
 
   module _ {vertices : List ℤ} {elements : List ℕ} {t : List ℕ} {state : ReaderState} {n : ℕ} (g : Reading file rooms vertices elements t state n) where
-    pub reading_ready : 0 < length t → Ready t state vertices elements
-    reading_ready h = record { some = h; few_vertices = g.limits.few_vertices; few_elements = g.limits.few_elements; own = g.own }
-
     -- a line was taken
     pub reading_more : (next : ReaderState) (m : ℕ) (vertices' : List ℤ) (elements' u : List ℕ)
         → LineTaken t rooms state vertices elements next m vertices' elements' → u ≡ drop m t
@@ -161,30 +132,32 @@ module _ (file : List ℕ) (rooms : Rooms) where
         })
 
     -- the line is refused
-    pub reading-refused : (r : ReadAnswer) (f : Fault) → verdict_of r ≡ refused (refuse f n)
+    pub reading-refused : (r : Result ReadCounts Refusal) (f : Fault) → verdict_of r ≡ refused (refuse f n)
         → ((k : ℕ) → file_from rooms state k (split line_end t) ≡ refused (refuse f k)) → (vertices' : List ℤ) (elements' : List ℕ)
         → FileRead file rooms r vertices' elements'
     reading-refused r f e h vertices' elements' = refused_read r (refuse f n) e (sym (g.verdict ∙ h n)) vertices' elements'
 
     -- no line is left
-    pub reading-end : (r : ReadAnswer) → length t ≤ 0 → verdict_of r ≡ at_end state n → FileRead file rooms r vertices elements
+    pub reading-end : (r : Result ReadCounts Refusal) → length t ≤ 0 → verdict_of r ≡ at_end state n → FileRead file rooms r vertices elements
     unfolding verdict_of at_end
-    reading-end (Done counts) h e = ended state.ended refl
+    reading-end (Ok counts) h e = ended state.ended refl
       where
-        ended : (b : Bool) → state.ended ≡ b → FileRead file rooms (Done counts) vertices elements
+        ended : (b : Bool) → state.ended ≡ b → FileRead file rooms (Ok counts) vertices elements
         ended true q =
             let a : accepted (counts.vertices ∷ counts.elements ∷ []) ≡ accepted (state.vertices ∷ state.elements ∷ []) = rw q at e in
             let c : counts.vertices ≡ state.vertices = cc in
             let d : counts.elements ≡ state.elements = cc in
             record {
               answer = e ∙ sym (g.verdict ∙ file-end rooms state n t h);
-              vertex_table = g.vertex_table ∙ rw (records_none vertex_records state t h, c) (append-nil _);
-              element_table = g.element_table ∙ rw (records_none element_records state t h, d) (append-nil _);
-              vertex_long = omega (arith, c, g.own.vertex_length, g.limits.few_vertices);
-              element_long = omega (arith, d, g.own.element_length, g.limits.few_elements);
+              kept = record {
+                vertex_table = g.vertex_table ∙ rw (records_none vertex_records state t h, c) (append-nil _);
+                element_table = g.element_table ∙ rw (records_none element_records state t h, d) (append-nil _);
+                vertex_long = omega (arith, c, g.own.vertex_length, g.limits.few_vertices);
+                element_long = omega (arith, d, g.own.element_length, g.limits.few_elements);
+              };
             }
         ended false q =
             let a : accepted (counts.vertices ∷ counts.elements ∷ []) ≡ refused (refuse fault.End n) = rw q at e in
             let z : ◌≡◌ {A = ℕ} 0 1 = cc in
             absurd (omega arith)
-    reading-end (Refused s) h e = refused_read (Refused s) s refl (e ∙ sym (g.verdict ∙ file-end rooms state n t h)) vertices elements
+    reading-end (Err s) h e = refused_read (Err s) s refl (e ∙ sym (g.verdict ∙ file-end rooms state n t h)) vertices elements

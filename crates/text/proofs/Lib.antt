@@ -1,5 +1,5 @@
 -- What is proved of reading a text file.
-pub mod CopyLaws
+pub mod FirstLaws
 pub mod KeptLaws
 pub mod QuickNumbers
 pub mod QuickFields

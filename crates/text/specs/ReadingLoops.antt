@@ -1,27 +1,31 @@
 -- What private functions say beside the page's definitions: sizes and shapes that only their callers and loops want.
-use Rattle.std.specs.Prelude.{ℕ, ◌+◌, ◌*◌, ◌≤◌, ◌<◌, ◌≡◌, true, cond, List, ◌++◌, length, take, drop, ℤ}
+use Rattle.std.specs.Prelude.{ℕ, ◌+◌, ◌*◌, ◌≤◌, ◌<◌, ◌≡◌, true, cond, ◌⊎◌, List, [], ◌++◌, length, take, drop, ℤ, Ok, Result, Err, IfOk}
 use Rattle.std.proofs.lemmas.List.Edits.{sets}
-use Rattle.limits.specs.Limits.{line_end, file_limit, vertex_limit, element_limit, vertex_width, element_width}
-use Rattle.laws.specs.Pieces.{piece, split}
+use Rattle.limits.specs.Limits.{line_end, space, file_limit, vertex_limit, element_limit, vertex_width, element_width}
+use Rattle.laws.specs.Pieces.{rest, piece, split}
 use Rattle.faults.specs.Refusals.{refused, refuse}
 use Rattle.faults.specs.declared.Fault.{Fault}
 use Rattle.faults.specs.declared.Fault.TheVariants as fault
+use Rattle.faults.specs.declared.Refusal.{Refusal}
 use Rattle.format.specs.Line.{mark_of, role_of, line_verdict}
 use Rattle.format.specs.File.{start, lines_of, file_from, file_verdict}
-use Rattle.format.specs.Records.{vertex_records, element_records, records_from, of_accepted}
+use Rattle.format.specs.Records.{vertex_records, element_records, records_from}
 use Rattle.format.specs.declared.ReaderState.{ReaderState}
 use Rattle.format.specs.declared.Rooms.{Rooms}
-use Rattle.format.specs.declared.Line.TheVariants.{Next}
 use Rattle.text.specs.Reading.{verdict_of}
-use Rattle.text.specs.declared.file.Step.{Step}
-use Rattle.text.specs.declared.file.Step.TheVariants as step
 use Rattle.text.specs.declared.ReadCounts.{ReadCounts}
-use Rattle.text.specs.declared.ReadAnswer.{ReadAnswer}
-use Rattle.text.specs.declared.ReadAnswer.TheVariants.{Done, Refused}
 
 -- no more records than a file has bytes
 pub record Few (state : ReaderState) : Type 0 where
   pub few : state.vertices + state.elements ≤ file_limit
+
+-- the first field of a text, and what stands behind it
+abbrev pub FirstField : List ℕ → List ℕ → List ℕ → Type 0
+FirstField t field more = (split space t ≡ piece field (split space more)) ⊎ ((split space t ≡ rest field) × (more ≡ []))
+
+-- what is read of a text is what f says of it
+abbrev pub Says : {A : Type 0} → (List ℕ → A → Type 0) → (List ℕ → A) → Type 0
+Says {A} gives f = (t : List ℕ) (v : A) → gives t v → v ≡ f t
 
 -- the fault of a line that lacks its byte 10: MARK after EN, else SHAPE
 abbrev pub open_fault : ReaderState → Fault
@@ -50,31 +54,24 @@ pub record LineTaken (t : List ℕ) (rooms : Rooms) (state : ReaderState) (verti
   pub cut : split line_end t ≡ piece line (split line_end (drop n t))
   pub some : 0 < n
   pub inside : n ≤ length t
-  pub verdict : line_verdict rooms state true line ≡ Next next
+  pub verdict : line_verdict rooms state true line ≡ Ok next
   pub own : Own vertices' elements'
   pub vertex_table : take (vertex_width * next.vertices) vertices' ≡ take (vertex_width * state.vertices) vertices ++ vertex_records state (role_of (mark_of line)) line
   pub element_table : take (element_width * next.elements) elements' ≡ take (element_width * state.elements) elements ++ element_records state (role_of (mark_of line)) line
 
 -- the line at the front of t: taken and kept, or refused whichever number it has
-abbrev pub LineRead : List ℕ → Rooms → ReaderState → List ℤ → List ℕ → Step → List ℤ → List ℕ → Type 0
-LineRead t rooms state vertices elements (step.Next next n) vertices' elements' = LineTaken t rooms state vertices elements next n vertices' elements'
-LineRead t rooms state vertices elements (step.No f) vertices' elements' = (n : ℕ) → file_from rooms state n (split line_end t) ≡ refused (refuse f n)
+abbrev pub LineRead : List ℕ → Rooms → ReaderState → List ℤ → List ℕ → Result (ReaderState × ℕ) Fault → List ℤ → List ℕ → Type 0
+LineRead t rooms state vertices elements (Ok taken) vertices' elements' = LineTaken t rooms state vertices elements taken.0 taken.1 vertices' elements'
+LineRead t rooms state vertices elements (Err f) vertices' elements' = (n : ℕ) → file_from rooms state n (split line_end t) ≡ refused (refuse f n)
 
--- how many vertices and elements an answer gives, none where it is a refusal
-abbrev pub counts_in : ReadAnswer → ReadCounts
-counts_in (Done counts) = counts
-counts_in (Refused r) = record { vertices = 0; elements = 0 }
-
--- the first n members of a table, at most so many, can be copied into another
-pub record Copying {A : Type 0} (most : ℕ) (kept : List A) (n : ℕ) (table : List A) : Type 0 where
-  pub few : n ≤ most
-  pub long : n ≤ length kept
-  pub room : n ≤ length table
+-- the records of a file stand at the front of both tables
+pub record Kept (file : List ℕ) (counts : ReadCounts) (vertices : List ℤ) (elements : List ℕ) : Type 0 where
+  pub vertex_table : records_from vertex_records start (lines_of file) ≡ take (vertex_width * counts.vertices) vertices
+  pub element_table : records_from element_records start (lines_of file) ≡ take (element_width * counts.elements) elements
+  pub vertex_long : vertex_width * counts.vertices ≤ length vertices
+  pub element_long : element_width * counts.elements ≤ length elements
 
 -- the verdict on a file, and the records of an accepted one at the front of both tables
-pub record FileRead (file : List ℕ) (rooms : Rooms) (r : ReadAnswer) (vertices : List ℤ) (elements : List ℕ) : Type 0 where
+pub record FileRead (file : List ℕ) (rooms : Rooms) (r : Result ReadCounts Refusal) (vertices : List ℤ) (elements : List ℕ) : Type 0 where
   pub answer : verdict_of r ≡ file_verdict rooms file
-  pub vertex_table : of_accepted (verdict_of r) (records_from vertex_records start (lines_of file)) ≡ take (vertex_width * (counts_in r).vertices) vertices
-  pub element_table : of_accepted (verdict_of r) (records_from element_records start (lines_of file)) ≡ take (element_width * (counts_in r).elements) elements
-  pub vertex_long : vertex_width * (counts_in r).vertices ≤ length vertices
-  pub element_long : element_width * (counts_in r).elements ≤ length elements
+  pub kept : IfOk r (λ counts. Kept file counts vertices elements)

@@ -1,37 +1,32 @@
 // The fields of a line: their number and spacing, what each says, and what is wrong with the first that is.
-ghost use Rattle.std.specs.Prelude.{◌≡◌};
+ghost use Rattle.std.specs.Fn.{FnReturnsAt};
+ghost use Rattle.std.specs.Prelude.{◌≡◌, List, ℕ};
 ghost use Rattle.limits.specs.Limits.{space};
 ghost use Rattle.laws.specs.Pieces.{split};
 ghost use Rattle.format.specs.Number.{coordinate_of, number_of};
-ghost use Rattle.format.specs.Line.{are_fields, bad_shape, numbers_of, judge_coordinate, judge_count, judge_vertex, field_verdict, fields_verdict};
+ghost use Rattle.format.specs.Line.{are_fields, bad_shape, first_of, numbers_of, judge_coordinate, judge_count, judge_vertex, field_verdict, fields_verdict};
+ghost use Rattle.text.specs.ReadingLoops.{FirstField, Says};
 
 use faults::Fault;
-use format::{Coordinate, Judged, ReaderState, Role, Spelt};
+use format::{ReaderState, Role};
 use limits::{CORNER_WIDTH, FIELDS_AT, MARK_WIDTH, SPACE};
-use numbers::scan::{find, from, past, until};
+use numbers::scan::split_once;
 use numbers::{coordinate, number, value};
 
-// Whether s is n fields with one space between two.
+// Whether s is n fields with one space between two. The library's `split` was tried here: the proof would carry what its closure answers, and did not close.
 fn are_fields(s: &[u8], n: usize) -> bool
     ensures { result ≡ are_fields n (split space s.now) }
 {
-    let mut t = s;
+    let mut rest = s;
     let mut left = n;
-    loop {
-        if left == 0 {
+    while let Some((field, more)) = split_once(rest, SPACE) {
+        if left == 0 || field.is_empty() {
             return false;
-        }
-        let r = find(t, SPACE);
-        if r == 0 {
-            return false;
-        }
-        if r == t.len() {
-            return left == 1;
         }
         left -= 1;
-        let u = past(t, r);
-        t = u;
+        rest = more;
     }
+    left == 1 && !rest.is_empty()
 }
 
 // Whether a line has another number of fields than n, or wrong spacing.
@@ -39,101 +34,86 @@ fn are_fields(s: &[u8], n: usize) -> bool
 pub fn bad_shape(t: &[u8], n: usize) -> bool
     ensures { result ≡ bad_shape n t.now }
 {
-    if t.len() < FIELDS_AT {
-        return true;
+    t.get(MARK_WIDTH) != Some(&SPACE) || !are_fields(&t[FIELDS_AT..], n)
+}
+
+// The first field of s and what stands behind it, which may be nothing.
+pub fn first_field(s: &[u8]) -> (&[u8], &[u8])
+    ensures { FirstField s.now result.0.now result.1.now }
+{
+    split_once(s, SPACE).unwrap_or((s, &[]))
+}
+
+// The first N fields, each by what `value` says of it; where there is none, what it says of no bytes.
+pub fn first_of<T: Copy, F: Fn(&[u8]) -> T, const N: usize>(s: &[u8], value: F) -> [T; N]
+    requires { F.IsAlwaysCallable value }
+    ensures { (f : List ℕ → T) → Says (FnReturnsAt F.Fn value) f → result ≡ first_of f N (split space s.now) }
+{
+    let mut out = [value(&[]); N];
+    let mut rest = s;
+    for place in out.iter_mut() {
+        let (field, more) = first_field(rest);
+        *place = value(field);
+        rest = more;
     }
-    if t[MARK_WIDTH] != SPACE {
-        return true;
-    }
-    if are_fields(from(t, FIELDS_AT), n) {
-        return false;
-    }
-    true
+    out
 }
 
 // The numbers of the first eight fields, 0 where there is none.
 pub fn numbers(s: &[u8]) -> [u16; CORNER_WIDTH]
     ensures { result ≡ numbers_of (split space s.now) }
 {
-    let mut t = s;
-    let mut out = [0u16; CORNER_WIDTH];
-    let mut k = 0;
-    while k < CORNER_WIDTH {
-        let r = find(t, SPACE);
-        out[k] = value(until(t, r));
-        let u = past(t, r);
-        t = u;
-        k += 1;
-    }
-    out
+    first_of(s, value)
 }
 
 // What is wrong with a coordinate.
-fn judge_coordinate(t: &[u8]) -> Judged
+fn judge_coordinate(t: &[u8]) -> Result<(), Fault>
     ensures { result ≡ judge_coordinate (coordinate_of t.now) }
 {
-    match coordinate(t) {
-        Coordinate::Thousandths(_) => Judged::Passed,
-        Coordinate::Wrong(f) => Judged::Failed(f),
-    }
+    coordinate(t)?;
+    Ok(())
 }
 
 // What is wrong with a count.
-fn judge_count(t: &[u8]) -> Judged
+fn judge_count(t: &[u8]) -> Result<(), Fault>
     ensures { result ≡ judge_count (number_of t.now) }
 {
-    match number(t) {
-        Spelt::Of(_) => Judged::Passed,
-        Spelt::Not => Judged::Failed(Fault::Number),
-    }
+    number(t).ok_or(Fault::Number)?;
+    Ok(())
 }
 
 // What is wrong with a vertex number, where there are `count` vertices.
-fn judge_vertex(t: &[u8], count: usize) -> Judged
+fn judge_vertex(t: &[u8], count: usize) -> Result<(), Fault>
     ensures { result ≡ judge_vertex count (number_of t.now) }
 {
     match number(t) {
-        Spelt::Of(n) => {
-            if n == 0 {
-                return Judged::Failed(Fault::Vertex);
-            }
-            if count < (n as usize) {
-                return Judged::Failed(Fault::Vertex);
-            }
-            Judged::Passed
-        }
-        Spelt::Not => Judged::Failed(Fault::Number),
+        None => Err(Fault::Number),
+        Some(n) if n == 0 || count < n as usize => Err(Fault::Vertex),
+        Some(_) => Ok(()),
     }
 }
 
 // What is wrong with a field of a line of that role.
 #[tactic(auto, unfolding(format::specs::Line::field_verdict))]
-fn judge_field(t: &[u8], role: Role, state: ReaderState) -> Judged
+fn judge_field(t: &[u8], role: Role, state: ReaderState) -> Result<(), Fault>
     ensures { result ≡ field_verdict state role t.now }
 {
     match role {
         Role::VertexLine => judge_coordinate(t),
         Role::ElementLine => judge_vertex(t, state.vertices),
         Role::EndLine => judge_count(t),
-        Role::UnknownLine => Judged::Passed,
+        Role::UnknownLine => Ok(()),
     }
 }
 
 // What is wrong with the first wrong field of s.
-pub fn judge_fields(s: &[u8], role: Role, state: ReaderState) -> Judged
+pub fn judge_fields(s: &[u8], role: Role, state: ReaderState) -> Result<(), Fault>
     ensures { result ≡ fields_verdict state role (split space s.now) }
 {
-    let mut t = s;
-    loop {
-        let r = find(t, SPACE);
-        match judge_field(until(t, r), role, state) {
-            Judged::Failed(f) => return Judged::Failed(f),
-            Judged::Passed => {}
-        }
-        if r == t.len() {
-            return Judged::Passed;
-        }
-        let u = past(t, r);
-        t = u;
+    let mut rest = s;
+    while let Some((field, more)) = split_once(rest, SPACE) {
+        judge_field(field, role, state)?;
+        rest = more;
     }
+    judge_field(rest, role, state)
 }

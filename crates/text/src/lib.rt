@@ -15,21 +15,18 @@ use format::Rooms;
 use limits::{ELEMENT_NUMBERS, ELEMENT_WIDTH, VERTEX_NUMBERS, VERTEX_WIDTH};
 
 // How many vertices and elements the file gave.
-#[derive(Clone, Copy)]
+#[derive(Clone, Copy, Debug, PartialEq, Eq)]
 pub struct ReadCounts {
     pub vertices: usize,
     pub elements: usize,
 }
 
-// What reading says of a file.
-#[derive(Clone, Copy)]
-pub enum ReadAnswer {
-    Done(ReadCounts),
-    Refused(Refusal),
-}
-
 // Reads a file: three numbers a vertex into one table, nine an element into the other; a refused file leaves both alone.
-pub fn read_mesh(file: &[u8], vertices: &mut [i32], elements: &mut [u16]) -> ReadAnswer
+pub fn read_mesh(
+    file: &[u8],
+    vertices: &mut [i32],
+    elements: &mut [u16],
+) -> Result<ReadCounts, Refusal>
     ensures { ReadDone file.now vertices.old elements.old result vertices.new elements.new }
 {
     let rooms = Rooms {
@@ -38,11 +35,10 @@ pub fn read_mesh(file: &[u8], vertices: &mut [i32], elements: &mut [u16]) -> Rea
     };
     let mut kept_vertices = [0i32; VERTEX_NUMBERS];
     let mut kept_elements = [0u16; ELEMENT_NUMBERS];
-    let answer = file::read_lines(file, rooms, &mut kept_vertices, &mut kept_elements);
-    let counts = store::counts_of(answer);
+    let counts = file::read_lines(file, rooms, &mut kept_vertices, &mut kept_elements)?;
     let n = VERTEX_WIDTH * counts.vertices;
     let m = ELEMENT_WIDTH * counts.elements;
-    store::copy_coordinates(&kept_vertices, n, vertices);
-    store::copy_numbers(&kept_elements, m, elements);
-    answer
+    vertices[..n].copy_from_slice(&kept_vertices[..n]);
+    elements[..m].copy_from_slice(&kept_elements[..m]);
+    Ok(counts)
 }

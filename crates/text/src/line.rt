@@ -1,5 +1,5 @@
 // The verdict on one line, in the page's order of tests, and the state after it.
-ghost use Rattle.std.specs.Prelude.{◌≡◌, true, false};
+ghost use Rattle.std.specs.Prelude.{◌≡◌, true, cond, Ok, Err};
 ghost use Rattle.limits.specs.Limits.{space};
 ghost use Rattle.laws.specs.Pieces.{split};
 ghost use Rattle.format.specs.Line.{bad_mark, too_many, no_room, bad_counts, after_role, line_verdict};
@@ -8,7 +8,7 @@ ghost use Rattle.text.specs.ReadingLoops.{Few, open_fault};
 use crate::field::{bad_shape, judge_fields, numbers};
 use crate::mark::{mark_of, role_of, wants};
 use faults::Fault;
-use format::{Judged, Line, ReaderState, Role, Rooms};
+use format::{ReaderState, Role, Rooms};
 use limits::{ELEMENT_LIMIT, ELEMENT_WIDTH, FIELDS_AT, VERTEX_LIMIT, VERTEX_WIDTH};
 use numbers::scan::from;
 
@@ -19,8 +19,7 @@ pub fn bad_mark(state: ReaderState, role: Role) -> bool
 {
     match role {
         Role::VertexLine => 0 < state.elements,
-        Role::ElementLine => false,
-        Role::EndLine => false,
+        Role::ElementLine | Role::EndLine => false,
         Role::UnknownLine => true,
     }
 }
@@ -33,8 +32,7 @@ pub fn too_many(state: ReaderState, role: Role) -> bool
     match role {
         Role::VertexLine => VERTEX_LIMIT <= state.vertices,
         Role::ElementLine => ELEMENT_LIMIT <= state.elements,
-        Role::EndLine => false,
-        Role::UnknownLine => false,
+        Role::EndLine | Role::UnknownLine => false,
     }
 }
 
@@ -47,24 +45,8 @@ pub fn no_room(rooms: Rooms, state: ReaderState, role: Role) -> bool
     match role {
         Role::VertexLine => rooms.vertices < VERTEX_WIDTH * (state.vertices + 1),
         Role::ElementLine => rooms.elements < ELEMENT_WIDTH * (state.elements + 1),
-        Role::EndLine => false,
-        Role::UnknownLine => false,
+        Role::EndLine | Role::UnknownLine => false,
     }
-}
-
-// Whether the numbers of two fields are others than the two counts so far.
-#[tactic(auto, unfolding(format::specs::Line::bad_counts))]
-fn counts_differ(state: ReaderState, t: &[u8]) -> bool
-    ensures { result ≡ bad_counts state Role.EndLine (split space t.now) }
-{
-    let n = numbers(t);
-    if (n[0] as usize) != state.vertices {
-        return true;
-    }
-    if (n[1] as usize) != state.elements {
-        return true;
-    }
-    false
 }
 
 // Whether the line is EN with counts other than the file's.
@@ -73,10 +55,11 @@ fn bad_counts(state: ReaderState, role: Role, t: &[u8]) -> bool
     ensures { result ≡ bad_counts state role (split space t.now) }
 {
     match role {
-        Role::VertexLine => false,
-        Role::ElementLine => false,
-        Role::EndLine => counts_differ(state, t),
-        Role::UnknownLine => false,
+        Role::EndLine => {
+            let n = numbers(t);
+            usize::from(n[0]) != state.vertices || usize::from(n[1]) != state.elements
+        }
+        _ => false,
     }
 }
 
@@ -89,18 +72,15 @@ pub fn after(state: ReaderState, role: Role) -> ReaderState
     match role {
         Role::VertexLine => ReaderState {
             vertices: state.vertices + 1,
-            elements: state.elements,
-            ended: state.ended,
+            ..state
         },
         Role::ElementLine => ReaderState {
-            vertices: state.vertices,
             elements: state.elements + 1,
-            ended: state.ended,
+            ..state
         },
         Role::EndLine => ReaderState {
-            vertices: state.vertices,
-            elements: state.elements,
             ended: true,
+            ..state
         },
         Role::UnknownLine => state,
     }
@@ -111,41 +91,34 @@ pub fn open_line(state: ReaderState) -> Fault
     ensures { result ≡ open_fault state }
 {
     if state.ended {
-        return Fault::Mark;
+        Fault::Mark
+    } else {
+        Fault::Shape
     }
-    Fault::Shape
+}
+
+// A test of a line: the fault where it is true.
+fn refuse_if(test: bool, fault: Fault) -> Result<(), Fault>
+    ensures { result ≡ cond test (Err fault) (Ok tt) }
+{
+    if test { Err(fault) } else { Ok(()) }
 }
 
 // A line that its byte 10 ends.
 #[tactic(auto, unfolding(format::specs::Line::line_verdict, format::specs::Line::fields_of, format::specs::Line::after))]
-pub fn judge_line(t: &[u8], rooms: Rooms, state: ReaderState) -> Line
+pub fn judge_line(t: &[u8], rooms: Rooms, state: ReaderState) -> Result<ReaderState, Fault>
     requires { Few state }
     ensures { result ≡ line_verdict rooms state true t.now }
 {
-    if state.ended {
-        return Line::No(Fault::Mark);
-    }
+    refuse_if(state.ended, Fault::Mark)?;
     let mark = mark_of(t);
     let role = role_of(mark);
-    if bad_mark(state, role) {
-        return Line::No(Fault::Mark);
-    }
-    if too_many(state, role) {
-        return Line::No(Fault::Many);
-    }
-    if bad_shape(t, wants(mark) as usize) {
-        return Line::No(Fault::Shape);
-    }
+    refuse_if(bad_mark(state, role), Fault::Mark)?;
+    refuse_if(too_many(state, role), Fault::Many)?;
+    refuse_if(bad_shape(t, usize::from(wants(mark))), Fault::Shape)?;
     let fields = from(t, FIELDS_AT);
-    match judge_fields(fields, role, state) {
-        Judged::Failed(f) => return Line::No(f),
-        Judged::Passed => {}
-    }
-    if no_room(rooms, state, role) {
-        return Line::No(Fault::Room);
-    }
-    if bad_counts(state, role, fields) {
-        return Line::No(Fault::End);
-    }
-    Line::Next(after(state, role))
+    judge_fields(fields, role, state)?;
+    refuse_if(no_room(rooms, state, role), Fault::Room)?;
+    refuse_if(bad_counts(state, role, fields), Fault::End)?;
+    Ok(after(state, role))
 }

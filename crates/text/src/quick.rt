@@ -1,298 +1,211 @@
 // A quick reading of a line beyond question: a VX line, or an element line but PZ, whose fields are all good. It touches each byte once and
 // searches for nothing. It declines any other line, which file.rt then judges.
-ghost use Rattle.std.specs.Prelude.{◌≡◌, ◌*◌, ◌-◌, ◌≤◌, ◌<◌, get_or};
-ghost use Rattle.limits.specs.Limits.{whole_digits, vertex_limit, element_limit, vertex_width, element_width};
+ghost use Rattle.std.specs.Fn.{FnReturnsAt};
+ghost use Rattle.std.specs.Prelude.{List, ℕ, ◌≡◌, ◌*◌, ◌≤◌, ◌<◌, ◌∷◌, length, IfSome};
+ghost use Rattle.limits.specs.Limits.{whole_digits, vertex_width, element_width};
 ghost use Rattle.format.specs.Number.{thousandths_of, value_of};
-ghost use Rattle.format.specs.Line.{mark_of};
+ghost use Rattle.format.specs.Line.{mark_of, wants};
+ghost use Rattle.format.specs.declared.ReaderState.{ReaderState};
+ghost use Rattle.format.specs.declared.Role.{Role};
 ghost use Rattle.text.specs.ReadingLoops.{Ready};
-ghost use Rattle.text.specs.QuickLoops.{DigitsAt, WholeAt, DecimalsAt, MagnitudeAt, CoordinateAt, NumberAt, FieldsRead, ElementRead, LineQuick, Room, Cleared, Within, scaled, start_of, end_of};
+ghost use Rattle.text.specs.QuickLoops.{Reads, DigitsAt, WholeAt, DecimalsAt, PartAt, UnsignedAt, CoordinateAt, NumberAt, FieldsAt, ElementRead, LineQuick, end_of};
 
 use crate::line::{bad_mark, no_room, too_many};
 use crate::mark::{role_of, tip_first, wants};
-use format::{Mark, ReaderState, Role, Rooms, Spelt};
+use format::{Mark, ReaderState, Role, Rooms};
 use limits::{
-    DECIMAL_DIGITS, ELEMENT_NUMBERS, ELEMENT_WIDTH, FIELDS_AT, LINE_END, MAGNITUDE_LIMIT,
-    MARK_WIDTH, MINUS, NUMBER_DIGITS, POINT, SPACE, VERTEX_NUMBERS, VERTEX_WIDTH, WHOLE_DIGITS,
-    ZERO,
+    DECIMAL_DIGITS, ELEMENT_NUMBERS, ELEMENT_WIDTH, LINE_END, MAGNITUDE_LIMIT, MINUS,
+    NUMBER_DIGITS, POINT, SPACE, VERTEX_NUMBERS, VERTEX_WIDTH, WHOLE_DIGITS, ZERO,
 };
 use numbers::digit;
 
-// A number and the place behind its bytes; place 0 where there is none.
+// What was read at the front of a text, and what stands behind it.
 #[derive(Clone, Copy)]
-pub struct Run {
-    pub value: u32,
-    pub next: usize,
+struct Run<'a, T> {
+    value: T,
+    rest: &'a [u8],
 }
 
-// A coordinate and the place behind it and its end; place 0 where there is none.
-#[derive(Clone, Copy)]
-pub struct Signed {
-    pub value: i32,
-    pub next: usize,
-}
-
-// The byte at place i, 0 where there is none.
-fn byte_at(t: &[u8], i: usize) -> u8
-    ensures { result ≡ get_or t.now i 0 }
-{
-    if i < t.len() {
-        return t[i];
-    }
-    0
-}
-
-// The digits from place i on, at most so many, and the place behind them.
-fn digit_run(t: &[u8], i: usize, most: usize) -> Run
+// The number that the digits at the front of a text spell, at most so many, and how many they are.
+fn digit_run(t: &[u8], most: usize) -> (u32, usize)
     requires { most ≤ whole_digits }
-    ensures { DigitsAt t.now i most result.value result.next }
+    ensures { DigitsAt t.now most result.0 result.1 }
 {
-    let mut n: u32 = 0;
-    let mut j = i;
-    let mut left = most;
-    while 0 < left {
-        match digit(byte_at(t, j)) {
-            Spelt::Of(d) => {
-                n = n * 10 + d;
-            }
-            Spelt::Not => return Run { value: n, next: j },
-        }
-        j += 1;
-        left -= 1;
-    }
-    Run { value: n, next: j }
-}
-
-// 0, or digits not starting with 0, from place i on.
-fn quick_whole(t: &[u8], i: usize, most: usize) -> Run
-    requires { most ≤ whole_digits }
-    ensures { (result.next ≡ 0 → ⊥) → WholeAt t.now i most result.value result.next }
-{
-    let r = digit_run(t, i, most);
-    let j = r.next;
-    if j <= i {
-        return Run { value: 0, next: 0 };
-    }
-    if byte_at(t, i) == ZERO {
-        if j - i != 1 {
-            return Run { value: 0, next: 0 };
+    let front = &t[..most.min(t.len())];
+    let mut value = 0;
+    for (count, x) in front.iter().enumerate() {
+        match digit(*x) {
+            Some(d) => value = value * 10 + d,
+            None => return (value, count),
         }
     }
-    r
+    (value, front.len())
 }
 
-// The thousandths that n decimals make.
-fn scaled(value: u32, n: usize) -> u32
-    requires { value < 1000 }
-    ensures { result ≡ scaled value n }
+// 0, or digits not starting with 0.
+fn quick_whole(t: &[u8], most: usize) -> Option<Run<'_, u32>>
+    requires { most ≤ whole_digits }
+    ensures { IfSome result (λ r. WholeAt t.now most r.value r.rest.now) }
 {
-    if n == 1 {
-        return value * 100;
+    let (value, count) = digit_run(t, most);
+    if count == 0 || (t[0] == ZERO && count != 1) {
+        return None;
     }
-    if n == 2 {
-        return value * 10;
-    }
-    value
+    Some(Run {
+        value,
+        rest: &t[count..],
+    })
 }
 
-// A magnitude within the limits, and the place behind its end.
-fn within(value: u32, next: usize) -> Run
-    ensures { (result.next ≡ 0 → ⊥) → Within value next result.value result.next }
+// One to three digits, in thousandths.
+fn quick_decimals(t: &[u8]) -> Option<Run<'_, u32>>
+    ensures { IfSome result (λ r. DecimalsAt t.now r.value r.rest.now) }
 {
-    if MAGNITUDE_LIMIT < (value as u64) {
-        return Run { value: 0, next: 0 };
-    }
-    Run { value, next }
+    let (digits, count) = digit_run(t, DECIMAL_DIGITS);
+    let value = match count {
+        0 => return None,
+        1 => digits * 100,
+        2 => digits * 10,
+        _ => digits,
+    };
+    Some(Run {
+        value,
+        rest: &t[count..],
+    })
 }
 
-// The decimals from place i on and their end, with the thousandths that stand before them.
-fn quick_decimals(t: &[u8], i: usize, stop: u8, whole: u32) -> Run
-    requires { (0 < stop) × (whole ≤ 1000000000) }
-    ensures { (result.next ≡ 0 → ⊥) → DecimalsAt t.now i stop whole result.value result.next }
+// What stands behind the whole millimetres of a coordinate: a point and decimals, or 0 thousandths.
+#[tactic(auto, using(crate::proofs::QuickNumbers::part_none))]
+fn quick_part(t: &[u8]) -> Option<Run<'_, u32>>
+    ensures { IfSome result (λ r. PartAt t.now r.value r.rest.now) }
 {
-    let f = digit_run(t, i, DECIMAL_DIGITS);
-    let q = f.next;
-    if q <= i {
-        return Run { value: 0, next: 0 };
+    match t {
+        [POINT, decimals @ ..] => quick_decimals(decimals),
+        _ => Some(Run { value: 0, rest: t }),
     }
-    if byte_at(t, q) != stop {
-        return Run { value: 0, next: 0 };
-    }
-    within(whole + scaled(f.value, q - i), q + 1)
 }
 
-// A coordinate without its sign from place i on, and its end.
-fn quick_magnitude(t: &[u8], i: usize, stop: u8) -> Run
-    requires { 0 < stop }
-    ensures { (result.next ≡ 0 → ⊥) → MagnitudeAt t.now i stop result.value result.next }
+// A coordinate without its sign.
+#[tactic(auto, using(crate::proofs::QuickNumbers::unsigned_at))]
+fn quick_unsigned(neg: bool, t: &[u8]) -> Option<Run<'_, i32>>
+    ensures { IfSome result (λ r. UnsignedAt neg t.now r.value r.rest.now) }
 {
-    let w = quick_whole(t, i, WHOLE_DIGITS);
-    let p = w.next;
-    if p == 0 {
-        return Run { value: 0, next: 0 };
+    let whole = quick_whole(t, WHOLE_DIGITS)?;
+    let part = quick_part(whole.rest)?;
+    let value = whole.value * 1000 + part.value;
+    if MAGNITUDE_LIMIT < u64::from(value) {
+        return None;
     }
-    let x = byte_at(t, p);
-    if x == stop {
-        return within(w.value * 1000, p + 1);
-    }
-    if x == POINT {
-        return quick_decimals(t, p + 1, stop, w.value * 1000);
-    }
-    Run { value: 0, next: 0 }
+    let v = value as i32;
+    Some(Run {
+        value: if neg { -v } else { v },
+        rest: part.rest,
+    })
 }
 
-// Where the digits of a coordinate at place i begin: behind the minus, if there is one.
-fn start_of(t: &[u8], i: usize) -> usize
-    ensures { result ≡ start_of (get_or t.now i 0) i }
+// A coordinate.
+fn quick_coordinate(t: &[u8]) -> Option<Run<'_, i32>>
+    ensures { IfSome result (λ r. CoordinateAt t.now r.value r.rest.now) }
 {
-    if byte_at(t, i) == MINUS {
-        return i + 1;
-    }
-    i
+    let (neg, digits) = match t {
+        [MINUS, digits @ ..] => (true, digits),
+        _ => (false, t),
+    };
+    quick_unsigned(neg, digits)
 }
 
-// A coordinate from place i on, and its end.
-fn quick_coordinate(t: &[u8], i: usize, stop: u8) -> Signed
-    requires { 0 < stop }
-    ensures { (result.next ≡ 0 → ⊥) → CoordinateAt t.now i stop result.value result.next }
+// A vertex number, where there are `count` vertices.
+#[tactic(auto, using(crate::proofs::QuickNumbers::number_at))]
+fn quick_number(t: &[u8], count: usize) -> Option<Run<'_, u16>>
+    ensures { IfSome result (λ r. NumberAt t.now count r.value r.rest.now) }
 {
-    let start = start_of(t, i);
-    let m = quick_magnitude(t, start, stop);
-    let next = m.next;
-    if next == 0 {
-        return Signed { value: 0, next: 0 };
+    let run = quick_whole(t, NUMBER_DIGITS)?;
+    if run.value == 0 || count < run.value as usize {
+        return None;
     }
-    let v = m.value as i32;
-    if start == i {
-        return Signed { value: v, next };
-    }
-    Signed { value: -v, next }
-}
-
-// A vertex number from place i on, and its end, where there are `count` vertices.
-fn quick_number(t: &[u8], i: usize, stop: u8, count: usize) -> Run
-    requires { 0 < stop }
-    ensures { (result.next ≡ 0 → ⊥) → NumberAt t.now i stop count result.value result.next }
-{
-    let w = quick_whole(t, i, NUMBER_DIGITS);
-    let p = w.next;
-    let n = w.value;
-    if p == 0 {
-        return Run { value: 0, next: 0 };
-    }
-    if n == 0 {
-        return Run { value: 0, next: 0 };
-    }
-    if count < (n as usize) {
-        return Run { value: 0, next: 0 };
-    }
-    if byte_at(t, p) != stop {
-        return Run { value: 0, next: 0 };
-    }
-    Run {
-        value: n,
-        next: p + 1,
-    }
+    Some(Run {
+        value: run.value as u16,
+        rest: run.rest,
+    })
 }
 
 // The byte that ends field k of n.
 fn end_of(k: usize, n: usize) -> u8
     ensures { result ≡ end_of k n }
 {
-    if k == n {
-        return LINE_END;
-    }
-    SPACE
+    if k == n { LINE_END } else { SPACE }
 }
 
-// The coordinates of a VX line, after those of the vertices before it; the place behind the line, or 0.
-fn quick_coordinates(t: &[u8], state: ReaderState, vertices: &mut [i32; VERTEX_NUMBERS]) -> usize
-    requires { Room (vertex_width * vertex_limit) (vertex_width * state.vertices) vertex_width vertices.old }
-    ensures { FieldsRead thousandths_of state Role.VertexLine vertex_width t.now (vertex_width * state.vertices) vertices.old result vertices.new }
+// What stands behind the byte x at the front of a text.
+fn behind(t: &[u8], x: u8) -> Option<&[u8]>
+    ensures { IfSome result (λ rest. t.now ≡ x ∷ rest.now) }
 {
-    let base = VERTEX_WIDTH * state.vertices;
-    let mut from = FIELDS_AT;
-    let mut k = 0;
-    while k < VERTEX_WIDTH {
-        let q = quick_coordinate(t, from, end_of(k + 1, VERTEX_WIDTH));
-        let next = q.next;
-        if next == 0 {
-            return 0;
-        }
-        let v = q.value;
-        vertices[base + k] = v;
-        k += 1;
-        if k == VERTEX_WIDTH {
-            return next;
-        }
-        from = next;
+    match t {
+        [first, rest @ ..] if *first == x => Some(rest),
+        _ => None,
     }
-    0
 }
 
-// The corners of an element line, kept from index `base` on; the place behind the line, or 0.
-fn quick_corners(
-    t: &[u8],
-    state: ReaderState,
-    want: usize,
-    base: usize,
-    elements: &mut [u16; ELEMENT_NUMBERS],
-) -> usize
-    requires { Room (element_width * element_limit) base want elements.old }
-    ensures { FieldsRead value_of state Role.ElementLine want t.now base elements.old result elements.new }
+// The fields of a line up to its end, each read by `read`: their values.
+fn quick_fields<'a, T: Copy, F: Fn(&[u8]) -> Option<Run<'_, T>>>(
+    t: &'a [u8],
+    values: &mut [T],
+    read: F,
+) -> Option<&'a [u8]>
+    requires some { 0 < length values.old }
+    requires callable { F.IsAlwaysCallable read }
+    ensures { (value : List ℕ → T) (state : ReaderState) (role : Role)
+        → Reads (FnReturnsAt F.Fn read) value state role
+        → IfSome result (λ rest. FieldsAt value state role t.now values.new rest.now) }
 {
-    let mut from = FIELDS_AT;
-    let mut k = 0;
-    while k < want {
-        let q = quick_number(t, from, end_of(k + 1, want), state.vertices);
-        let next = q.next;
-        if next == 0 {
-            return 0;
-        }
-        elements[base + k] = q.value as u16;
-        k += 1;
-        if k == want {
-            return next;
-        }
-        from = next;
+    let last = values.len();
+    let mut rest = t;
+    for (k, place) in values.iter_mut().enumerate() {
+        let field = read(rest)?;
+        *place = field.value;
+        rest = behind(field.rest, end_of(k + 1, last))?;
     }
-    0
+    Some(rest)
 }
 
-// Zeros from index `from` up to `to`.
-fn clear(elements: &mut [u16; ELEMENT_NUMBERS], from: usize, to: usize)
-    requires { Room (element_width * element_limit) from (to - from) elements.old }
-    ensures { Cleared from (to - from) elements.old elements.new }
+// The coordinates of a VX line, up to its end.
+fn quick_coordinates<'a>(t: &'a [u8], coordinates: &mut [i32]) -> Option<&'a [u8]>
+    requires { 0 < length coordinates.old }
+    ensures { (state : ReaderState) → IfSome result (λ rest. FieldsAt thousandths_of state Role.VertexLine t.now coordinates.new rest.now) }
 {
-    let mut k = from;
-    while k < to {
-        elements[k] = 0;
-        k += 1;
-    }
+    quick_fields(t, coordinates, quick_coordinate)
 }
 
-// The record of an element line but PZ, after those of the elements before it; the place behind the line, or 0.
-fn quick_element(
-    t: &[u8],
+// The corners of an element line, up to its end.
+fn quick_corners<'a>(t: &'a [u8], state: ReaderState, corners: &mut [u16]) -> Option<&'a [u8]>
+    requires { 0 < length corners.old }
+    ensures { IfSome result (λ rest. FieldsAt value_of state Role.ElementLine t.now corners.new rest.now) }
+{
+    quick_fields(t, corners, |field| quick_number(field, state.vertices))
+}
+
+// The record of an element line but PZ, up to its end.
+fn quick_element<'a>(
+    t: &'a [u8],
     mark: Mark,
     state: ReaderState,
-    elements: &mut [u16; ELEMENT_NUMBERS],
-) -> usize
-    requires { Room (element_width * element_limit) (element_width * state.elements) element_width elements.old }
-    ensures { ElementRead mark state t.now elements.old result elements.new }
+    element: &mut [u16],
+) -> Option<&'a [u8]>
+    requires some { 0 < wants mark }
+    requires long { length element.old ≡ element_width }
+    ensures { IfSome result (λ rest. ElementRead mark state t.now element.new rest.now) }
 {
     if tip_first(mark) {
-        return 0;
+        return None;
     }
     let kind = wants(mark);
-    let want = kind as usize;
-    let base = ELEMENT_WIDTH * state.elements;
-    elements[base] = kind;
-    let n = quick_corners(t, state, want, base + 1, elements);
-    clear(elements, base + 1 + want, base + ELEMENT_WIDTH);
-    n
+    element.fill(0);
+    element[0] = kind;
+    quick_corners(t, state, &mut element[1..=usize::from(kind)])
 }
 
-// The line at the front of t, where it is beyond question: how many bytes it takes with its byte 10, or 0.
+// The line at the front of t, where it is beyond question: how many bytes it takes with its byte 10.
+#[tactic(auto, unfolding(format::specs::Line::too_many))]
 pub fn quick_line(
     t: &[u8],
     mark: Mark,
@@ -300,30 +213,31 @@ pub fn quick_line(
     state: ReaderState,
     vertices: &mut [i32; VERTEX_NUMBERS],
     elements: &mut [u16; ELEMENT_NUMBERS],
-) -> usize
+) -> Option<usize>
     requires { (mark ≡ mark_of t.now) × Ready t.now state vertices.old elements.old }
     ensures { LineQuick t.now mark rooms state vertices.old elements.old result vertices.new elements.new }
 {
-    if state.ended {
-        return 0;
-    }
-    if byte_at(t, MARK_WIDTH) != SPACE {
-        return 0;
-    }
+    let [_, _, SPACE, fields @ ..] = t else {
+        return None;
+    };
     let role = role_of(mark);
-    if bad_mark(state, role) {
-        return 0;
+    if state.ended
+        || bad_mark(state, role)
+        || too_many(state, role)
+        || no_room(rooms, state, role)
+    {
+        return None;
     }
-    if too_many(state, role) {
-        return 0;
-    }
-    if no_room(rooms, state, role) {
-        return 0;
-    }
-    match role {
-        Role::VertexLine => quick_coordinates(t, state, vertices),
-        Role::ElementLine => quick_element(t, mark, state, elements),
-        Role::EndLine => 0,
-        Role::UnknownLine => 0,
-    }
+    let rest = match role {
+        Role::VertexLine => {
+            let at = VERTEX_WIDTH * state.vertices;
+            quick_coordinates(fields, &mut vertices[at..at + VERTEX_WIDTH])?
+        }
+        Role::ElementLine => {
+            let at = ELEMENT_WIDTH * state.elements;
+            quick_element(fields, mark, state, &mut elements[at..at + ELEMENT_WIDTH])?
+        }
+        Role::EndLine | Role::UnknownLine => return None,
+    };
+    Some(t.len() - rest.len())
 }

@@ -1,4 +1,3 @@
 -- What is proved of the vertex table.
 pub mod VertexLaws
 pub mod Theorems
-pub mod BadPointLaws

@@ -5,9 +5,9 @@ use mathlib.Core.List.{List}
 use Prim.Native.Nat.{ℕ}
 use lib.IntN.{ℤ}
 use Rattle.faults.specs.declared.Refusal.{Refusal}
-use Rattle.faults.specs.declared.Ruling.{Ruling}
-use Rattle.faults.specs.declared.Ruling.TheVariants.{Passed, Refused}
+use Rattle.std.specs.Prelude.{Result, Ok, Err}
 use Rattle.faults.specs.Refusals.{accepted, refused, ruled}
+use Rattle.faults.proofs.RefusalLaws as R
 use Rattle.volume.specs.declared.Point.{Point}
 use Rattle.volume.specs.Volume.{point_at}
 use Rattle.vertices.specs.Vertices.{vertices_judged, Ranged}
@@ -20,7 +20,7 @@ pub point_unique : (table : List ℤ) (v : ℕ) (p q : Point) → p ≡ point_at
 point_unique table v p q e f = e ∙ sym f
 
 -- `judge_vertices`
-pub vertices_unique : (table : List ℤ) (n : ℕ) (r s : Ruling) → r ≡ ruled (vertices_judged table n) → s ≡ ruled (vertices_judged table n) → r ≡ s
+pub vertices_unique : (table : List ℤ) (n : ℕ) (r s : Result (Unit {0}) Refusal) → r ≡ ruled (vertices_judged table n) → s ≡ ruled (vertices_judged table n) → r ≡ s
 vertices_unique table n r s e f = e ∙ sym f
 
 -- ---- what a judged table is
@@ -33,8 +33,8 @@ pub ranged-accepted : (table : List ℤ) (n : ℕ) → Ranged table n → vertic
 ranged-accepted = L.ranged-accepted
 
 -- the ruling tells it
-pub ruled-refused : (table : List ℤ) (n : ℕ) {x : Refusal} → ruled (vertices_judged table n) ≡ Refused x → vertices_judged table n ≡ refused x
-ruled-refused table n = L.ruled-refused (vertices_judged table n)
+pub ruled-refused : (table : List ℤ) (n : ℕ) {x : Refusal} → ruled (vertices_judged table n) ≡ Err x → vertices_judged table n ≡ refused x
+ruled-refused table n {x} = R.ruled-refused (vertices_judged table n) x
 
-pub ruled_passed : (table : List ℤ) (n : ℕ) → ruled (vertices_judged table n) ≡ Passed → Ranged table n
-ruled_passed table n e = (L.accepted-ranged table n (L.ruled_passed (vertices_judged table n) e).1).1
+pub ruled_passed : (table : List ℤ) (n : ℕ) → ruled (vertices_judged table n) ≡ Ok tt → Ranged table n
+ruled_passed table n e = (L.accepted-ranged table n (R.ruled_passed (vertices_judged table n) e).1).1

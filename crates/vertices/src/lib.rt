@@ -1,41 +1,29 @@
 // A vertex table, judged: ROOM, then RANGE with the first vertex beyond the limits; and its points.
 #![tactic(auto)]
 
-ghost use Rattle.std.specs.Prelude.{◌≡◌, ◌*◌, ◌-◌, ◌≤◌, pos, length, get_or};
-ghost use Rattle.limits.specs.Limits.{vertex_width};
+ghost use Rattle.std.specs.Prelude.{◌≡◌, pos, get_or};
 ghost use Rattle.faults.specs.Refusals.{ruled};
 ghost use Rattle.volume.specs.Volume.{point_at};
-ghost use Rattle.vertices.specs.Vertices.{bad_point, vertices_judged};
+ghost use Rattle.vertices.specs.Vertices.{vertices_judged};
 
-use faults::{Fault, Refusal, Ruling};
+use faults::{Fault, Refusal};
 use limits::VERTEX_WIDTH;
-use volume::Point;
+use volume::{Point, point_in_range};
 
-// The number at an index; 0 behind the end.
+// The number at an index; as the point's definition has it, 0 behind the table's end.
 fn number_at(vertices: &[i32], at: usize) -> i32
     ensures { result ≡ get_or vertices.now «at» (pos 0) }
 {
-    if vertices.len() <= at {
-        return 0;
-    }
-    vertices[at]
-}
-
-// One less than a vertex number; 0 has none below it.
-fn one_less(v: usize) -> usize
-    ensures { result ≡ «v» - 1 }
-{
-    if v == 0 {
-        return 0;
-    }
-    v - 1
+    vertices.get(at).copied().unwrap_or(0)
 }
 
 // The vertex v, from 1, of a vertex table; the numbers behind its end are 0.
+#[tactic(auto, using(crate::proofs::VertexLaws::behind_end), unfolding(volume::specs::Volume::point_at))]
 pub fn point_at(vertices: &[i32], v: usize) -> Point
     ensures { result ≡ point_at vertices.now «v» }
 {
-    let before = one_less(v);
+    let before = v.saturating_sub(1);
+    // So far behind the end an index need not fit.
     if vertices.len() / VERTEX_WIDTH < before {
         return Point { x: 0, y: 0, z: 0 };
     }
@@ -47,39 +35,18 @@ pub fn point_at(vertices: &[i32], v: usize) -> Point
     }
 }
 
-// The number, from 1, of the first of n vertices with a coordinate beyond the limits, or 0.
-fn bad_point(vertices: &[i32], n: usize) -> usize
-    requires { vertex_width * n ≤ length vertices.now }
-    ensures { result ≡ bad_point vertices.now n }
-{
-    let mut k = 0;
-    while k < n {
-        if !volume::point_in_range(point_at(vertices, k + 1)) {
-            return k + 1;
-        }
-        k += 1;
-    }
-    0
-}
-
 // Judges a vertex table of n vertices: ROOM, then RANGE.
-pub fn judge_vertices(vertices: &[i32], n: usize) -> Ruling
+#[tactic(auto, using(crate::proofs::VertexLaws::judging))]
+pub fn judge_vertices(vertices: &[i32], n: usize) -> Result<(), Refusal>
     ensures { result ≡ ruled (vertices_judged vertices.now «n») }
 {
     if vertices.len() / VERTEX_WIDTH < n {
-        return Ruling::Refused(Refusal {
-            fault: Fault::Room,
-            place: 0,
-            second: 0,
-        });
+        return Err(Refusal::at(Fault::Room, 0));
     }
-    let bad = bad_point(vertices, n);
-    if 0 < bad {
-        return Ruling::Refused(Refusal {
-            fault: Fault::Range,
-            place: bad,
-            second: 0,
-        });
+    for k in 0..n {
+        if !point_in_range(point_at(vertices, k + 1)) {
+            return Err(Refusal::at(Fault::Range, k + 1));
+        }
     }
-    Ruling::Passed
+    Ok(())
 }

@@ -7,7 +7,7 @@ use lib.IntN.{ℤ}
 use Rattle.laws.specs.Sizes.{Within}
 use Rattle.laws.proofs.SizeLaws.{within_add, within_sub, within_mul}
 use Rattle.volume.specs.declared.Point.{Point}
-use Rattle.volume.specs.declared.Row.{Row}
+use Rattle.volume.specs.Volume.{Row}
 use Rattle.volume.specs.Volume.{point_in_range, minus, minor, determinant}
 use Rattle.volume.specs.RowLoops.{reach, RowWithin}
 use Rattle.volume.proofs.RangeLaws.{coordinates, in_range_within}

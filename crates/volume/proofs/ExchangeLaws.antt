@@ -3,7 +3,7 @@ use mathlib.Core.Path.{◌≡◌, sym, ap, ◌∙◌}
 use native.Mathlib.Omega.{arith}
 use lib.IntN.{ℤ, neg_ℤ, ◌+ℤ◌, ◌-ℤ◌, ◌*ℤ◌, *ℤ_comm}
 use Rattle.laws.proofs.IntegerLaws.{atom, less_add, less_sub, less_neg, less_same, mul_sub, mul_swap}
-use Rattle.volume.specs.declared.Row.{Row}
+use Rattle.volume.specs.Volume.{Row}
 use Rattle.volume.specs.Volume.{minor, determinant}
 
 -- six products, three of them taken away

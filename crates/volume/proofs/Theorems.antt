@@ -8,29 +8,29 @@ use Prim.Native.Nat.{ℕ, suc, ◌+◌, ◌*◌, ◌-◌}
 use native.Mathlib.Omega.{arith}
 use lib.IntN.{ℤ, pos, neg_ℤ}
 use lib.ListN.{get_or}
+use Rattle.std.specs.Prelude.{Result, Ok, Err}
 use Rattle.faults.specs.declared.Fault.TheVariants.{Range}
+use Rattle.faults.specs.declared.Refusal.{Refusal}
 use Rattle.faults.specs.Refusals.{accepted, refused, refuse}
 use Rattle.faults.proofs.Theorems.{answer_tells_verdict}
 use Rattle.laws.specs.Sizes.{Within}
 use Rattle.volume.specs.declared.Point.{Point}
-use Rattle.volume.specs.declared.VolumeAnswer.{VolumeAnswer}
-use Rattle.volume.specs.declared.VolumeAnswer.TheVariants.{Done, Refused}
 use Rattle.volume.specs.Volume.{point_in_range, minus, ranged, sixfold, volume_verdict, verdict_of, VolumeDone, point_at}
 use Rattle.volume.proofs.BoundLaws.{minus-within, determinant-within}
 use Rattle.volume.proofs.ExchangeLaws.{first_rows_exchanged, last_rows_exchanged}
 use Rattle.volume.proofs.VerdictLaws.{answer_with, answer-again}
 
 -- the contract fixes the verdict
-pub verdict_fixed : {a b c d : Point} {r : VolumeAnswer} → VolumeDone a b c d r → verdict_of r ≡ volume_verdict a b c d
+pub verdict_fixed : {a b c d : Point} {r : Result ℤ Refusal} → VolumeDone a b c d r → verdict_of r ≡ volume_verdict a b c d
 verdict_fixed {a} {b} {c} {d} {r} h = answer_tells_verdict (pos 0) (verdict_of r) (volume_verdict a b c d) h.answers
 
 -- two answers that the contract allows are equal
-pub volume_unique : {a b c d : Point} {r s : VolumeAnswer} → VolumeDone a b c d r → VolumeDone a b c d s → r ≡ s
+pub volume_unique : {a b c d : Point} {r s : Result ℤ Refusal} → VolumeDone a b c d r → VolumeDone a b c d s → r ≡ s
 volume_unique {r} {s} h k =
     sym (answer-again r) ∙ ap answer_with (verdict_fixed h ∙ sym (verdict_fixed k)) ∙ answer-again s
 
 -- a first point beyond the limits is named, whatever the others are
-pub range_at_first : (a b c d : Point) → point_in_range a ≡ false → {r : VolumeAnswer} → VolumeDone a b c d r → r ≡ Refused (refuse Range 1)
+pub range_at_first : (a b c d : Point) → point_in_range a ≡ false → {r : Result ℤ Refusal} → VolumeDone a b c d r → r ≡ Err (refuse Range 1)
 unfolding volume_verdict ranged
 range_at_first a b c d ha {r} h =
     let e : volume_verdict a b c d ≡ refused (refuse Range 1) = rw ha in
@@ -44,7 +44,7 @@ module _ (a b c d : Point) (ha : point_in_range a ≡ true) (hb : point_in_range
   accepted_in_range = rw (ha, hb, hc, hd)
 
   -- and so is the answer
-  pub done_in_range : {r : VolumeAnswer} → VolumeDone a b c d r → r ≡ Done (sixfold a b c d)
+  pub done_in_range : {r : Result ℤ Refusal} → VolumeDone a b c d r → r ≡ Ok (sixfold a b c d)
   done_in_range {r} h = sym (answer-again r) ∙ ap answer_with (verdict_fixed h ∙ accepted_in_range)
 
   -- the sixfold volume lies within plus or minus 6,000,000,000,000,000,000

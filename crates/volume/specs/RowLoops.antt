@@ -1,7 +1,7 @@
--- What the private `determinant` asks of its rows, so that no product or sum of it leaves an i64. No promise of the room speaks of it.
+-- What each row of the private module `row` keeps, so that no product or sum of its `determinant` leaves an i64. No promise of the room speaks of it.
 use Rattle.std.specs.Prelude.{ℕ, ◌+◌}
 use Rattle.laws.specs.Sizes.{Within}
-use Rattle.volume.specs.declared.Row.{Row}
+use Rattle.volume.specs.Volume.{Row}
 use Rattle.limits.specs.Limits.{coordinate_limit}
 
 -- the greatest difference of two coordinates

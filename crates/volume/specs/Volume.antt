@@ -1,15 +1,13 @@
 -- Tables and numbers: a vertex, its limits, and the sixfold volume of four points.
 --   point     a vertex: three signed numbers, thousandths of a millimetre
 --   row       a point less another: a row of the determinant
-use Rattle.std.specs.Prelude.{◌≡◌, Bool, cond, ◌&&◌, List, ℕ, ◌+◌, ◌*◌, ◌-◌, ℤ, pos, neg_ℤ, ◌+ℤ◌, ◌-ℤ◌, ◌*ℤ◌, get_or}
+use Rattle.std.specs.Prelude.{◌≡◌, Bool, Result, Ok, Err, cond, ◌&&◌, List, ℕ, ◌+◌, ◌*◌, ◌-◌, ℤ, pos, neg_ℤ, ◌+ℤ◌, ◌-ℤ◌, ◌*ℤ◌, get_or}
 use Rattle.std.specs.Int.Signed.{le_z}
 use Rattle.limits.specs.Limits.{coordinate_limit}
 use Rattle.faults.specs.declared.Fault.TheVariants.{Range}
+use Rattle.faults.specs.declared.Refusal.{Refusal}
 use Rattle.faults.specs.Refusals.{Verdict, accepted, refused, refuse, answer_of}
 use Rattle.volume.specs.declared.Point.{Point}
-use Rattle.volume.specs.declared.Row.{Row}
-use Rattle.volume.specs.declared.VolumeAnswer.{VolumeAnswer}
-use Rattle.volume.specs.declared.VolumeAnswer.TheVariants.{Done, Refused}
 
 -- a coordinate from -500,000 to 500,000
 unfoldable pub in_range : ℤ → Bool
@@ -18,6 +16,12 @@ in_range z = le_z (neg_ℤ (pos coordinate_limit)) z && le_z z (pos coordinate_l
 -- each coordinate of the point is within the limits
 unfoldable pub point_in_range : Point → Bool
 point_in_range p = in_range p.x && (in_range p.y && in_range p.z)
+
+-- a row of the determinant
+pub record Row : Type 0 where
+  pub x : ℤ
+  pub y : ℤ
+  pub z : ℤ
 
 -- q - p
 unfoldable pub minus : Point → Point → Row
@@ -47,12 +51,12 @@ unfoldable pub volume_verdict : Point → Point → Point → Point → Verdict 
 volume_verdict a b c d = ranged 1 a (ranged 2 b (ranged 3 c (ranged 4 d (accepted (sixfold a b c d)))))
 
 -- what an answer says
-unfoldable pub verdict_of : VolumeAnswer → Verdict ℤ
-verdict_of (Done v) = accepted v
-verdict_of (Refused r) = refused r
+unfoldable pub verdict_of : Result ℤ Refusal → Verdict ℤ
+verdict_of (Ok v) = accepted v
+verdict_of (Err r) = refused r
 
 -- the answer, in the page's numbers, is the verdict of the four points; a refused answer has 0 for the volume
-pub record VolumeDone (a b c d : Point) (r : VolumeAnswer) : Type 0 where
+pub record VolumeDone (a b c d : Point) (r : Result ℤ Refusal) : Type 0 where
   pub answers : answer_of (pos 0) (verdict_of r) ≡ answer_of (pos 0) (volume_verdict a b c d)
 
 -- the vertex v, counted from 1, of a vertex table of three numbers a vertex

@@ -1,43 +1,18 @@
 // Sixfold volumes, printed as the library answers them: a line is the volume, or `NO number place second`.
 #![tactic(auto)]
 
-ghost use Rattle.std.specs.Prelude.{◌≡◌, nat_abs};
-
-use faults::{Refusal, number_of};
+use faults::Refusal;
 use std::io;
-use volume::{Point, VolumeAnswer, sixfold_volume};
+use volume::{Point, sixfold_volume};
 
 fn point(x: i32, y: i32, z: i32) -> Point {
     Point { x, y, z }
 }
 
-// The number without its sign.
-fn size(z: i64) -> u64
-    ensures { result ≡ nat_abs z }
-{
-    if 0 <= z {
-        return z as u64;
-    }
-    (-1 - z) as u64 + 1
-}
-
-fn print_volume(rt: &impl Print, volume: i64) -> io::Result<()> {
-    if volume < 0 {
-        print!(rt; "-")?;
-    }
-    println!(rt; "{}", size(volume))
-}
-
-fn print_refusal(rt: &impl Print, refusal: Refusal) -> io::Result<()> {
-    let number = number_of(refusal.fault);
-    let (place, second) = (refusal.place, refusal.second);
-    println!(rt; "NO {number} {place} {second}")
-}
-
-fn print_answer(rt: &impl Print, answer: VolumeAnswer) -> io::Result<()> {
+fn print_answer(rt: &impl Print, answer: Result<i64, Refusal>) -> io::Result<()> {
     match answer {
-        VolumeAnswer::Done(volume) => print_volume(rt, volume),
-        VolumeAnswer::Refused(refusal) => print_refusal(rt, refusal),
+        Ok(volume) => println!(rt; "{volume}"),
+        Err(refusal) => println!(rt; "{refusal}"),
     }
 }
 

@@ -3,50 +3,53 @@
 
 use faults::{Fault, Refusal};
 use std::io;
-use writing::{WriteAnswer, write_element, write_end, write_refusal, write_vertex};
+use writing::{write_element, write_end, write_refusal, write_vertex};
 
 fn print_part(rt: &impl Print, buffer: &[u8], n: usize) -> io::Result<()> {
-    if n <= buffer.len() {
-        rt.write_all(&buffer[..n])?;
+    match buffer.get(..n) {
+        Some(part) => rt.write_all(part),
+        None => Ok(()),
     }
-    Ok(())
 }
 
 fn print_refusal(rt: &impl Print, refusal: Refusal) -> io::Result<()> {
     let mut buffer = [0u8; 48];
     match write_refusal(refusal, &mut buffer) {
-        WriteAnswer::Done(n) => print_part(rt, &buffer, n),
-        WriteAnswer::Refused(_) => Ok(()),
+        Ok(n) => print_part(rt, &buffer, n),
+        Err(_) => Ok(()),
     }
 }
 
 // What a writer left in a buffer, by its answer.
-fn print_answer(rt: &impl Print, answer: WriteAnswer, buffer: &[u8]) -> io::Result<()> {
+fn print_answer(rt: &impl Print, answer: Result<usize, Refusal>, buffer: &[u8]) -> io::Result<()> {
     match answer {
-        WriteAnswer::Done(n) => print_part(rt, buffer, n),
-        WriteAnswer::Refused(refusal) => print_refusal(rt, refusal),
+        Ok(n) => print_part(rt, buffer, n),
+        Err(refusal) => print_refusal(rt, refusal),
     }
 }
 
-fn vertex(rt: &impl Print, x: i32, y: i32, z: i32) -> io::Result<()> {
+// What a writer leaves in a buffer with room for any line.
+fn print_line<F: FnOnce(&mut [u8]) -> Result<usize, Refusal>>(
+    rt: &impl Print,
+    write: F,
+) -> io::Result<()>
+    requires { F.IsAlwaysCallable write }
+{
     let mut buffer = [0u8; 48];
-    let answer = write_vertex(x, y, z, &mut buffer);
+    let answer = write(&mut buffer);
     print_answer(rt, answer, &buffer)
 }
 
-fn element(rt: &impl Print, kind: u16, a: [u16; 4], b: [u16; 4]) -> io::Result<()> {
-    let mut buffer = [0u8; 48];
-    let answer = write_element(
-        [kind, a[0], a[1], a[2], a[3], b[0], b[1], b[2], b[3]],
-        &mut buffer,
-    );
-    print_answer(rt, answer, &buffer)
+fn vertex(rt: &impl Print, x: i32, y: i32, z: i32) -> io::Result<()> {
+    print_line(rt, |line| write_vertex(x, y, z, line))
+}
+
+fn element(rt: &impl Print, record: [u16; 9]) -> io::Result<()> {
+    print_line(rt, |line| write_element(record, line))
 }
 
 fn end(rt: &impl Print, vertices: usize, elements: usize) -> io::Result<()> {
-    let mut buffer = [0u8; 48];
-    let answer = write_end(vertices, elements, &mut buffer);
-    print_answer(rt, answer, &buffer)
+    print_line(rt, |line| write_end(vertices, elements, line))
 }
 
 // The page's prism, cut: the file that the page shows, whole.
@@ -57,9 +60,9 @@ fn prism(rt: &impl Print) -> io::Result<()> {
     vertex(rt, 0, 0, 1000)?;
     vertex(rt, 1250, 0, 1000)?;
     vertex(rt, 0, 1250, 1000)?;
-    element(rt, 4, [1, 2, 3, 6], [0, 0, 0, 0])?;
-    element(rt, 4, [1, 2, 6, 5], [0, 0, 0, 0])?;
-    element(rt, 4, [1, 4, 5, 6], [0, 0, 0, 0])?;
+    element(rt, [4, 1, 2, 3, 6, 0, 0, 0, 0])?;
+    element(rt, [4, 1, 2, 6, 5, 0, 0, 0, 0])?;
+    element(rt, [4, 1, 4, 5, 6, 0, 0, 0, 0])?;
     end(rt, 6, 3)
 }
 
@@ -77,14 +80,14 @@ fn coordinates(rt: &impl Print) -> io::Result<()> {
 
 // Each kind, the highest vertex number, and each fault of a record.
 fn elements(rt: &impl Print) -> io::Result<()> {
-    element(rt, 5, [1, 2, 3, 4], [5, 0, 0, 0])?;
-    element(rt, 6, [10, 20, 30, 40], [50, 60, 0, 0])?;
-    element(rt, 8, [4089, 4090, 4091, 4092], [4093, 4094, 4095, 4096])?;
-    element(rt, 7, [0, 2, 2, 4], [5, 6, 7, 8])?;
-    element(rt, 4, [1, 2, 3, 4097], [0, 0, 0, 0])?;
-    element(rt, 4, [1, 2, 0, 2], [9, 0, 0, 0])?;
-    element(rt, 4, [1, 2, 3, 2], [0, 0, 0, 9])?;
-    element(rt, 4, [1, 2, 3, 2], [0, 0, 0, 0])
+    element(rt, [5, 1, 2, 3, 4, 5, 0, 0, 0])?;
+    element(rt, [6, 10, 20, 30, 40, 50, 60, 0, 0])?;
+    element(rt, [8, 4089, 4090, 4091, 4092, 4093, 4094, 4095, 4096])?;
+    element(rt, [7, 0, 2, 2, 4, 5, 6, 7, 8])?;
+    element(rt, [4, 1, 2, 3, 4097, 0, 0, 0, 0])?;
+    element(rt, [4, 1, 2, 0, 2, 9, 0, 0, 0])?;
+    element(rt, [4, 1, 2, 3, 2, 0, 0, 0, 9])?;
+    element(rt, [4, 1, 2, 3, 2, 0, 0, 0, 0])
 }
 
 // Each limit of EN, and one more.
@@ -97,11 +100,11 @@ fn ends(rt: &impl Print) -> io::Result<()> {
 
 // A line of 30 bytes into the first bytes of a buffer, as many as there is room for.
 fn write_front(rt: &impl Print, buffer: &mut [u8], room: usize) -> io::Result<()> {
-    if room <= buffer.len() {
-        let answer = write_vertex(-500000, -499999, -100001, &mut buffer[..room]);
-        print_answer(rt, answer, buffer)?;
+    if room > buffer.len() {
+        return Ok(());
     }
-    Ok(())
+    let answer = write_vertex(-500000, -499999, -100001, &mut buffer[..room]);
+    print_answer(rt, answer, buffer)
 }
 
 // The same among marked bytes, which stand where they stood.

@@ -1,6 +1,6 @@
 -- Laws of numbers in decimal: how many digits a number has, and that more digits than it has change nothing.
 -- Assumes nothing.
-use Prim.Native.Nat.{ℕ, zero, suc, ◌-◌, ◌/◌, ◌%◌, ◌^◌, ◌≤◌, ◌<◌}
+use Prim.Native.Nat.{ℕ, zero, suc, ◌/◌, ◌%◌, ◌^◌, ◌≤◌, ◌<◌}
 use native.Mathlib.Nat.{le_refl, pow-suc, div-lt_iff_lt-mul}
 use native.Mathlib.Omega.{arith}
 use mathlib.Core.Path.{◌≡◌, refl, sym, ap, ◌∙◌}
@@ -13,11 +13,7 @@ use Rattle.writing.specs.Written.{digit, digits_of, decimal}
 
 -- ---- the digits one by one
 
-pub no-digits : (f k : ℕ) → f ≡ 0 → digits_of f k ≡ []
-unfolding digits_of
-no-digits f k e = rw e
-
-pub one_digit : (f k : ℕ) → (f ≡ 0 → ⊥) → k < 10 → digits_of f k ≡ digit k ∷ []
+one_digit : (f k : ℕ) → (f ≡ 0 → ⊥) → k < 10 → digits_of f k ≡ digit k ∷ []
 unfolding digits_of
 one_digit zero k n h = absurd (n refl)
 one_digit (suc f) k n h = rw (lt-ltb k 10 h)
@@ -25,10 +21,6 @@ one_digit (suc f) k n h = rw (lt-ltb k 10 h)
 last_digit : (f k : ℕ) → 10 ≤ k → digits_of (suc f) k ≡ digits_of f (k / 10) ++ (digit (k % 10) ∷ [])
 unfolding digits_of
 last_digit f k h = rw (le-ltb k 10 h)
-
-pub more_digits : (f k : ℕ) → (f ≡ 0 → ⊥) → 10 ≤ k → digits_of f k ≡ digits_of (f - 1) (k / 10) ++ (digit (k % 10) ∷ [])
-more_digits zero k n h = absurd (n refl)
-more_digits (suc f) k n h = let e : suc f - 1 ≡ f = omega arith in rw e (last_digit f k h)
 
 -- ---- how many digits
 

@@ -66,7 +66,7 @@ module _ {old new l : List ℕ} {r : ℕ} (h : Put old 0 l new r) (room : length
 
 -- ---- a line put into one of its own, and shared up to its end
 
-module _ {own new l : List ℕ} {r : ℕ} (h : Put own 0 l new r) (kept : length new ≡ length own) (room : length l ≤ length own) where
+module _ {own new l : List ℕ} {r : ℕ} (kept : length new ≡ length own) (h : Put own 0 l new r) (room : length l ≤ length own) where
   pub own-short : r ≤ length new
   own-short = omega (arith, front_length h room)
 

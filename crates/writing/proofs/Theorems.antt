@@ -5,6 +5,7 @@ use Prim.Native.Nat.{ℕ, suc, ◌+◌, ◌*◌, ◌^◌, ◌≤◌, ◌<◌}
 use mathlib.Core.Path.{◌≡◌, refl, sym, ap, ◌∙◌}
 use mathlib.Core.Bool.{Bool, true, false, cond, ◌&&◌}
 use mathlib.Core.List.{List, [], ◌∷◌}
+use Rattle.std.specs.Prelude.{Result, Ok, Err}
 use lib.Dec.{eqb}
 use lib.IntN.{ℤ, pos, negsuc}
 use lib.ListN.{length}
@@ -14,7 +15,7 @@ use Rattle.limits.specs.Limits.{minus, vertex_limit, tetrahedron_limit}
 use Rattle.laws.specs.Lent.{laid}
 use Rattle.faults.specs.Refusals.{Verdict, accepted, refused, refuse}
 use Rattle.faults.specs.declared.Fault.TheVariants as fault
-use Rattle.faults.specs.declared.Finding.TheVariants.{Clean}
+use Rattle.std.specs.Prelude.{Ok}
 use Rattle.faults.specs.declared.Refusal.{Refusal}
 use Rattle.faults.proofs.Theorems.{answer_tells_verdict}
 use Rattle.volume.specs.Volume.{in_range}
@@ -22,34 +23,32 @@ use Rattle.records.specs.Record.{kind_of, record_finding}
 use Rattle.format.specs.declared.Mark.TheVariants.{Te, Py, Pz, Pr, Hx, Unknown}
 use Rattle.writing.specs.Written.{digits_of, decimal, sign_of, millimetres_of, coordinate_text, closed, vertex_line, mark_of_kind, element_line, end_line, refusal_line, in_room, write_vertex_verdict, write_element_verdict, write_end_verdict}
 use Rattle.writing.specs.Writing.{write_refusal_verdict, write_verdict, WriteDone}
-use Rattle.writing.specs.declared.WriteAnswer.{WriteAnswer}
-use Rattle.writing.specs.declared.WriteAnswer.TheVariants.{Done, Refused}
 use Rattle.writing.proofs.DecimalLaws as D
 use Rattle.writing.proofs.WrittenLaws as W
-use Rattle.writing.proofs.WriteLaws.{accepted-done, refused-done, within, faultless, few_of_both}
+use Rattle.writing.proofs.WriteLaws.{accepted-done, refused_done, within, faultless, few_of_both}
 
 -- ---- two answers, and two buffers, that the contract allows are equal
 
 -- the answer that a verdict stands for
-answer_in : Verdict (List ℕ) → WriteAnswer
-answer_in (accepted []) = Done 0
-answer_in (accepted (n ∷ ns)) = Done n
-answer_in (refused r) = Refused r
+answer_in : Verdict (List ℕ) → Result ℕ Refusal
+answer_in (accepted []) = Ok 0
+answer_in (accepted (n ∷ ns)) = Ok n
+answer_in (refused r) = Err r
 
-answer_of_verdict : (a : WriteAnswer) → answer_in (write_verdict a) ≡ a
+answer_of_verdict : (a : Result ℕ Refusal) → answer_in (write_verdict a) ≡ a
 unfolding write_verdict answer_in
-answer_of_verdict (Done n) = refl
-answer_of_verdict (Refused r) = refl
+answer_of_verdict (Ok n) = refl
+answer_of_verdict (Err r) = refl
 
-pub verdict_tells_answer : (a b : WriteAnswer) → write_verdict a ≡ write_verdict b → a ≡ b
+pub verdict_tells_answer : (a b : Result ℕ Refusal) → write_verdict a ≡ write_verdict b → a ≡ b
 verdict_tells_answer a b e = sym (answer_of_verdict a) ∙ ap answer_in e ∙ answer_of_verdict b
 
 -- what the contract fixes: the answer, and every byte of the buffer
-pub record Same (a b : WriteAnswer) (new new' : List ℕ) : Type 0 where
+pub record Same (a b : Result ℕ Refusal) (new new' : List ℕ) : Type 0 where
   pub answer : a ≡ b
   pub buffer : new ≡ new'
 
-module _ (a b : WriteAnswer) (old new new' : List ℕ) where
+module _ (a b : Result ℕ Refusal) (old new new' : List ℕ) where
   pub write_unique : (v : Verdict (List ℕ)) → WriteDone v old a new → WriteDone v old b new' → Same a b new new'
   write_unique v h k =
       record {
@@ -79,25 +78,25 @@ module _ (a b : WriteAnswer) (old new new' : List ℕ) where
 
 -- ---- what is done, and what is refused
 
-module _ (a : WriteAnswer) (old new : List ℕ) where
+module _ (a : Result ℕ Refusal) (old new : List ℕ) where
   -- the text is written: the answer is its length, and the buffer holds it, then what stood behind it
   pub record Written (text : List ℕ) : Type 0 where
-    pub answer : a ≡ Done (length text)
+    pub answer : a ≡ Ok (length text)
     pub buffer : new ≡ laid text old
 
   -- nothing is written
   pub record Left (r : Refusal) : Type 0 where
-    pub answer : a ≡ Refused r
+    pub answer : a ≡ Err r
     pub buffer : new ≡ old
 
   pub accepted-written : (text : List ℕ) → WriteDone (accepted text) old a new → Written text
   accepted-written text h =
-      let s = write_unique a (Done (length text)) old new (laid text old) (accepted text) h (accepted-done text old) in
+      let s = write_unique a (Ok (length text)) old new (laid text old) (accepted text) h (accepted-done text old) in
       record { answer = s.answer; buffer = s.buffer }
 
   pub refused-left : (r : Refusal) → WriteDone (refused r) old a new → Left r
   refused-left r h =
-      let s = write_unique a (Refused r) old new old (refused r) h (refused-done old r refl refl) in
+      let s = write_unique a (Err r) old new old (refused r) h (refused_done old refl refl) in
       record { answer = s.answer; buffer = s.buffer }
 
   module _ (text : List ℕ) (v : Verdict (List ℕ)) (e : v ≡ in_room (length old) text) (h : WriteDone v old a new) where
@@ -118,7 +117,7 @@ module _ (a : WriteAnswer) (old new : List ℕ) where
   vertex-written x y z h = room-written (closed (vertex_line x y z)) (write_vertex_verdict x y z (length old)) (within x y z (length old) h)
 
   -- `write_element`, with a record without a fault
-  pub element-written : (r : List ℕ) → record_finding vertex_limit r ≡ Clean → WriteDone (write_element_verdict r (length old)) old a new
+  pub element-written : (r : List ℕ) → record_finding vertex_limit r ≡ Ok tt → WriteDone (write_element_verdict r (length old)) old a new
       → length (closed (element_line r)) ≤ length old → Written (closed (element_line r))
   element-written r clean = room-written (closed (element_line r)) (write_element_verdict r (length old)) (faultless r (length old) clean)
 
@@ -177,10 +176,10 @@ pub vertex_line_short : (x y z : ℤ) → (in_range x && (in_range y && in_range
 vertex_line_short = W.vertex_line_short
 
 -- TE at most 23 bytes, PY 28, PR 33, HX 43
-pub element_line_by_kind : (r : List ℕ) → record_finding vertex_limit r ≡ Clean → length (closed (element_line r)) ≤ 5 * kind_of r + 3
+pub element_line_by_kind : (r : List ℕ) → record_finding vertex_limit r ≡ Ok tt → length (closed (element_line r)) ≤ 5 * kind_of r + 3
 element_line_by_kind = W.element_line_by_kind
 
-pub element_line_short : (r : List ℕ) → record_finding vertex_limit r ≡ Clean → length (closed (element_line r)) ≤ 43
+pub element_line_short : (r : List ℕ) → record_finding vertex_limit r ≡ Ok tt → length (closed (element_line r)) ≤ 43
 element_line_short = W.element_line_short
 
 pub end_line_short : (v e : ℕ) → v ≤ vertex_limit → e ≤ tetrahedron_limit → length (closed (end_line v e)) ≤ 13

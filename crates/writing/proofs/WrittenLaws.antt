@@ -1,6 +1,6 @@
 -- Laws of the written lines: a line is put together field by field, and how long each line is at most.
 -- Assumes nothing.
-use Prim.Native.Nat.{ℕ, suc, ◌+◌, ◌*◌, ◌/◌, ◌%◌, ◌^◌, ◌≤◌, ◌<◌}
+use Prim.Native.Nat.{ℕ, ◌+◌, ◌*◌, ◌/◌, ◌%◌, ◌^◌, ◌≤◌, ◌<◌}
 use native.Mathlib.Nat.{le_refl, not-suc-le-zero, div-div-eq-div-mul}
 use native.Mathlib.Numerals.{add-one}
 use native.Mathlib.Omega.{arith}
@@ -25,12 +25,12 @@ use Rattle.faults.specs.declared.Fault.{Fault}
 use Rattle.faults.specs.declared.Fault.TheVariants as fault
 use Rattle.faults.proofs.Theorems.{faults, listed}
 use Rattle.faults.specs.declared.Refusal.{Refusal}
-use Rattle.faults.specs.declared.Finding.TheVariants.{Clean}
+use Rattle.std.specs.Prelude.{Ok}
 use Rattle.volume.specs.Volume.{in_range, point_in_range}
 use Rattle.volume.proofs.RangeLaws.{in_range_within, coordinates}
-use Rattle.records.specs.Record.{kind_of, used_of, corner_at, record_finding}
+use Rattle.records.specs.Record.{kind_of, used_of, record_finding}
 use Rattle.records.specs.WholeRecords.{is_number}
-use Rattle.records.proofs.RecordLaws.{clean_faultless, clean-whole, used_length, kind-small, corner_used}
+use Rattle.records.proofs.RecordLaws.{clean_faultless, clean-whole, used_length, kind-small}
 use Rattle.format.specs.Line.{mark_bytes}
 use Rattle.format.specs.declared.Mark.{Mark}
 use Rattle.format.specs.declared.Mark.TheVariants.{Vx, Te, Py, Pz, Pr, Hx, En, Unknown}
@@ -121,29 +121,21 @@ module _ (mark : List ℕ) {old new : List ℕ} {r : ℕ} where
 
 -- ---- the line of an element, corner by corner
 
--- the first p vertex numbers, each preceded by a space
-abbrev pub element_part : List ℕ → ℕ → List ℕ
-element_part r p = gather (λ (f : List ℕ). space ∷ f) (map decimal (take p (used_of r)))
+-- the first p numbers, each preceded by a space
+abbrev pub numbers_part : List ℕ → ℕ → List ℕ
+numbers_part numbers p = gather (λ (f : List ℕ). space ∷ f) (map decimal (take p numbers))
 
-module _ (r : List ℕ) (clean : record_finding vertex_limit r ≡ Clean) where
-  pub kind_of_clean : kind_of r ≤ 8
-  kind_of_clean = kind-small (kind_of r) (clean_faultless vertex_limit r clean).kind
+pub numbers_next : (numbers : List ℕ) (p v : ℕ) {old mid new : List ℕ} {at n s : ℕ} → p < length numbers → v ≡ get_or numbers p 0
+    → Put old at (numbers_part numbers p) mid n → Put mid n (space ∷ decimal v) new s → Put old at (numbers_part numbers (p + 1)) new s
+numbers_next numbers p v l e h k =
+    rw (add-one p, take-suc numbers p 0 l, map-append decimal (take p numbers) (get_or numbers p 0 ∷ []), ← e)
+    (fields_more (map decimal (take p numbers)) (decimal v) h k)
 
-  corner_count : length (used_of r) ≡ kind_of r
-  corner_count = used_length r (clean-whole vertex_limit r clean)
-
-  pub element_corner : (p v : ℕ) {old mid new : List ℕ} {at n s : ℕ} → p < kind_of r → v ≡ corner_at r (p + 1)
-      → Put old at (element_part r p) mid n → Put mid n (space ∷ decimal v) new s → Put old at (element_part r (p + 1)) new s
-  element_corner p v l e h k =
-      let s : v ≡ get_or (used_of r) p 0 = e ∙ rw (add-one p) (corner_used r (suc p) (omega arith)) in
-      rw (add-one p, take-suc (used_of r) p 0 (rw corner_count l), map-append decimal (take p (used_of r)) (get_or (used_of r) p 0 ∷ []), ← s)
-      (fields_more (map decimal (take p (used_of r))) (decimal v) h k)
-
-  pub element-closed : (p : ℕ) {old marked numbered new : List ℕ} {n m s : ℕ} → kind_of r ≤ p
-      → Put old 0 (mark_bytes (mark_of_kind (kind_of r))) marked n → Put marked n (element_part r p) numbered m → Put numbered m (line_end ∷ []) new s
-      → Put old 0 (closed (element_line r)) new s
-  unfolding element_line line_with
-  element-closed p l f h k = put_two (put_two f (rw (take_all p (used_of r) (rw corner_count l)) at h)) k
+pub element-closed : (r numbers : List ℕ) (p : ℕ) {old marked numbered new : List ℕ} {n m s : ℕ} → numbers ≡ used_of r → length numbers ≤ p
+    → Put old 0 (mark_bytes (mark_of_kind (kind_of r))) marked n → Put marked n (numbers_part numbers p) numbered m → Put numbered m (line_end ∷ []) new s
+    → Put old 0 (closed (element_line r)) new s
+unfolding element_line line_with
+element-closed r numbers p e l f h k = put_two (put_two f (rw (take_all p numbers l, e) at h)) k
 
 -- ---- how long a line is
 
@@ -192,18 +184,24 @@ numbers-short (v ∷ l) h =
     let d : length (decimal v) ≤ 4 = decimal-short 3 v (omega arith) in
     simp length-append (omega (arith, numbers-short l (and_right (is_number vertex_limit v) (every (is_number vertex_limit) l) h)))
 
-module _ (r : List ℕ) (clean : record_finding vertex_limit r ≡ Clean) where
+module _ (r : List ℕ) (clean : record_finding vertex_limit r ≡ Ok tt) where
+  kind_of_clean : kind_of r ≤ 8
+  kind_of_clean = kind-small (kind_of r) (clean_faultless vertex_limit r clean).kind
+
+  corner_count : length (used_of r) ≡ kind_of r
+  corner_count = used_length r (clean-whole vertex_limit r clean)
+
   -- a mark, as many numbers of four digits as the kind says, and the byte 10
   pub element_line_by_kind : length (closed (element_line r)) ≤ 5 * kind_of r + 3
   unfolding element_line
   element_line_by_kind =
       rw (line-length (mark_bytes (mark_of_kind (kind_of r))) (map decimal (used_of r)))
       (omega
-      (arith, mark_short (mark_of_kind (kind_of r)), numbers-short (used_of r) (clean_faultless vertex_limit r clean).inside, corner_count r clean))
+      (arith, mark_short (mark_of_kind (kind_of r)), numbers-short (used_of r) (clean_faultless vertex_limit r clean).inside, corner_count))
 
   -- `HX` with eight numbers
   pub element_line_short : length (closed (element_line r)) ≤ 43
-  element_line_short = omega (arith, element_line_by_kind, kind_of_clean r clean)
+  element_line_short = omega (arith, element_line_by_kind, kind_of_clean)
 
 -- `EN 4096 6144` and its byte 10
 pub end_line_short : (v e : ℕ) → v ≤ vertex_limit → e ≤ tetrahedron_limit → length (closed (end_line v e)) ≤ 13

@@ -1,13 +1,12 @@
 -- The written text: a line for each record, the written file, the verdicts of the record writers, and the line of a refusal.
 -- A line stands here without its byte 10 until it is closed.
-use Rattle.std.specs.Prelude.{ℕ, zero, suc, ◌+◌, ◌/◌, ◌%◌, cond, not, ◌&&◌, ◌||◌, List, [], ◌∷◌, ◌++◌, map, length, get_or, take, drop, eqb, ltb, ℤ, pos, negsuc, nat_abs}
+use Rattle.std.specs.Prelude.{ℕ, zero, suc, ◌+◌, ◌/◌, ◌%◌, cond, not, ◌&&◌, ◌||◌, List, [], ◌∷◌, ◌++◌, map, length, get_or, take, drop, eqb, ltb, ℤ, pos, negsuc, nat_abs, Result, Ok, Err}
 use Rattle.limits.specs.Limits.{line_end, space, minus, point, digit0, vertex_limit, tetrahedron_limit, vertex_width, element_width}
 use Rattle.laws.specs.Words.{gather}
 use Rattle.faults.specs.Refusals.{Verdict, accepted, refused, refuse, refuse_if, number_of}
-use Rattle.faults.specs.declared.Finding.{Finding}
-use Rattle.faults.specs.declared.Finding.TheVariants.{Clean, Found}
 use Rattle.volume.specs.Volume.{in_range}
 use Rattle.records.specs.Record.{kind_of, used_of, record_finding}
+use Rattle.faults.specs.declared.Fault.{Fault}
 use Rattle.faults.specs.declared.Fault.TheVariants as fault
 use Rattle.faults.specs.declared.Refusal.{Refusal}
 use Rattle.format.specs.Line.{mark_bytes, after}
@@ -114,9 +113,9 @@ write_vertex_verdict x y z room =
     refuse_if (not (in_range x && (in_range y && in_range z))) (refuse fault.Range 1) (in_room room (closed (vertex_line x y z)))
 
 -- the first fault of a record, or what comes next
-abbrev pub unless_found : Finding → Verdict (List ℕ) → Verdict (List ℕ)
-unless_found Clean next = next
-unless_found (Found f) next = refused (refuse f 1)
+abbrev pub unless_found : Result (Unit {0}) Fault → Verdict (List ℕ) → Verdict (List ℕ)
+unless_found (Ok u) next = next
+unless_found (Err f) next = refused (refuse f 1)
 
 -- KIND, VERTEX (limit 4,096), SPARE, REPEAT for an element; then ROOM
 unfoldable pub write_element_verdict : List ℕ → (room : ℕ) → Verdict (List ℕ)

@@ -1,21 +1,17 @@
 // The lines that are written, byte by byte into lent memory from an index on; each function gives the index behind its bytes. A byte that
 // finds no room is left out: what is promised of bytes is promised where all of them have room.
+// The index is handed on from call to call: in a copy in plain Rust, a struct that keeps it with the memory was a quarter slower, and one with memory of its own by half.
 ghost use Rattle.std.specs.Prelude.{◌≡◌, ◌∷◌, [], ◌%◌, ◌<◌, nat_abs};
 ghost use Rattle.limits.specs.Limits.{space, vertex_limit};
-ghost use Rattle.faults.specs.declared.Finding.TheVariants.{Clean};
 ghost use Rattle.records.specs.Record.{record_finding};
 ghost use Rattle.format.specs.Line.{mark_bytes};
-ghost use Rattle.writing.specs.Written.{digit, digits_of, decimal, millimetres_of, coordinate_text, closed, mark_of_kind, vertex_line, element_line, end_line, refusal_line};
+ghost use Rattle.writing.specs.Written.{digit, decimal, millimetres_of, coordinate_text, closed, mark_of_kind, vertex_line, element_line, end_line, refusal_line};
 ghost use Rattle.writing.specs.WriteLoops.{Put};
 
-use faults::{Refusal, number_of};
+use faults::Refusal;
 use format::Mark;
 use limits::{ELEMENT_WIDTH, LINE_END, MINUS, POINT, SPACE, ZERO};
-use records::{corner, kind_of};
-use solids::Place;
-
-// How many digits a usize has at most.
-const LONGEST_NUMBER: usize = 20;
+use records::{corners_of, kind_of};
 
 // A byte.
 #[tactic(auto, using(crate::proofs::PutLaws::put_byte, crate::proofs::PutLaws::put_full))]
@@ -33,7 +29,7 @@ fn push(line: &mut [u8], at: usize, x: u8) -> usize
 fn digit(k: usize) -> u8
     ensures { result ≡ digit (k % 10) }
 {
-    ZERO + ((k % 10) as u8)
+    ZERO + (k % 10) as u8
 }
 
 // A number of one digit.
@@ -42,7 +38,7 @@ fn put_below_ten(line: &mut [u8], at: usize, k: usize) -> usize
     requires { k < 10 }
     ensures { Put line.old at (decimal k) line.new result }
 {
-    push(line, at, ZERO + (k as u8))
+    push(line, at, ZERO + k as u8)
 }
 
 // A number of at most two digits.
@@ -57,17 +53,14 @@ fn put_below_hundred(line: &mut [u8], at: usize, k: usize) -> usize
     push(line, next, digit(k))
 }
 
-// At most f digits of k, the last ones.
-fn put_digits(line: &mut [u8], at: usize, k: usize, f: usize) -> usize
-    ensures { Put line.old at (digits_of f k) line.new result }
+// A number of any length.
+fn put_digits(line: &mut [u8], at: usize, k: usize) -> usize
+    ensures { Put line.old at (decimal k) line.new result }
 {
-    if f == 0 {
-        return at;
-    }
     if k < 10 {
         return put_below_ten(line, at, k);
     }
-    let next = put_digits(line, at, k / 10, f - 1);
+    let next = put_digits(line, at, k / 10);
     push(line, next, digit(k))
 }
 
@@ -83,17 +76,14 @@ fn put_number(line: &mut [u8], at: usize, k: usize) -> usize
         let tens = push(line, hundreds, digit(k / 10));
         return push(line, tens, digit(k));
     }
-    put_digits(line, at, k, LONGEST_NUMBER)
+    put_digits(line, at, k)
 }
 
 // A coordinate without its sign.
 fn magnitude(z: i32) -> usize
     ensures { result ≡ nat_abs z }
 {
-    if 0 <= z {
-        return z as usize;
-    }
-    (-1 - z) as usize + 1
+    z.unsigned_abs() as usize
 }
 
 // Thousandths as millimetres, always with three decimals.
@@ -166,19 +156,13 @@ fn put_mark(line: &mut [u8], at: usize, mark: Mark) -> usize
 fn mark_of_kind(kind: u16) -> Mark
     ensures { result ≡ mark_of_kind kind }
 {
-    if kind == 4 {
-        return Mark::Te;
+    match kind {
+        4 => Mark::Te,
+        5 => Mark::Py,
+        6 => Mark::Pr,
+        8 => Mark::Hx,
+        _ => Mark::Unknown,
     }
-    if kind == 5 {
-        return Mark::Py;
-    }
-    if kind == 6 {
-        return Mark::Pr;
-    }
-    if kind == 8 {
-        return Mark::Hx;
-    }
-    Mark::Unknown
 }
 
 // VX x y z, with its byte 10.
@@ -194,17 +178,12 @@ pub fn vertex_line(line: &mut [u8], x: i32, y: i32, z: i32) -> usize
 
 // TE, PY, PR or HX and the vertex numbers, with its byte 10.
 pub fn element_line(line: &mut [u8], element: [u16; ELEMENT_WIDTH]) -> usize
-    requires { record_finding vertex_limit element ≡ Clean }
+    requires { record_finding vertex_limit element ≡ Ok tt }
     ensures { Put line.old 0 (closed (element_line element)) line.new result }
 {
-    let kind = kind_of(&element);
-    let mut at = put_mark(line, 0, mark_of_kind(kind));
-    let mut p: u8 = 0;
-    while (p as u16) < kind {
-        p += 1;
-        let vertex = corner(&element, Place(p));
-        let next = number_field(line, at, vertex.0 as usize);
-        at = next;
+    let mut at = put_mark(line, 0, mark_of_kind(kind_of(&element)));
+    for &vertex in corners_of(&element) {
+        at = number_field(line, at, usize::from(vertex));
     }
     push(line, at, LINE_END)
 }
@@ -223,9 +202,8 @@ pub fn end_line(line: &mut [u8], vertices: usize, elements: usize) -> usize
 pub fn refusal_line(line: &mut [u8], refusal: Refusal) -> usize
     ensures { Put line.old 0 (refusal_line refusal) line.new result }
 {
-    let fault = refusal.fault;
     let no = put_two(line, 0, b'N', b'O');
-    let number = number_field(line, no, number_of(fault) as usize);
+    let number = number_field(line, no, u32::from(refusal.fault) as usize);
     let place = number_field(line, number, refusal.place);
     let second = number_field(line, place, refusal.second);
     push(line, second, LINE_END)

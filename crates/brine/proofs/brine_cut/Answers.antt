@@ -1,14 +1,14 @@
 -- `brine::brine_cut` tells what `mesh::cut_mesh` answers, and leaves what it leaves. Assumes nothing.
-use Rattle.std.proofs.Common.{◌≡◌, length}
-use borrow.Author.Rules.{rules}
-use Rattle.brine.proofs.FrontLaws.{answered}
+use Rattle.std.proofs.Common.{refl, ap, ◌∙◌}
+use Rattle.mesh.specs.Cutting.{cut_verdict}
+use Rattle.brine.specs.Front.{answer_to}
+use Rattle.brine.proofs.FrontLaws.{same_verdict, answered}
 use Rattle.brine.proofs.brine_cut.Goals as goal
 
 pub returns : goal.returns
 returns c =
     let entry = c.cut_mesh-cut.ensures in
-    let size : length c.args.answer.now ≡ 4 = search rules in
     record {
-      answered = answered 1 c.of_cut.result c.args.answer.now c.of_cut.ensures entry.answer size c.tell.ensures.number c.tell.ensures.array;
+      answered = answered (ap (answer_to 1) (same_verdict _ cut_verdict (λ v. refl) (λ r. refl) _) ∙ entry.answer) c.tell.ensures;
       left = entry.output;
     }

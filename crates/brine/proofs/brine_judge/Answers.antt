@@ -1,11 +1,11 @@
 -- `brine::brine_judge` tells what `judging::judge_mesh` answers. Assumes nothing.
-use Rattle.std.proofs.Common.{◌≡◌, length}
-use borrow.Author.Rules.{rules}
-use Rattle.brine.proofs.FrontLaws.{answered}
+use Rattle.std.proofs.Common.{refl, ap, ◌∙◌}
+use Rattle.judging.specs.Judge.{judge_verdict}
+use Rattle.brine.specs.Front.{answer_to}
+use Rattle.brine.proofs.FrontLaws.{same_verdict, answered}
 use Rattle.brine.proofs.brine_judge.Goals as goal
 
 pub returns : goal.returns
 returns c =
     let entry = c.judge_mesh-judged.ensures in
-    let size : length c.args.answer.now ≡ 3 = search rules in
-    answered 0 c.of_judge.result c.args.answer.now c.of_judge.ensures entry.answer size c.tell.ensures.number c.tell.ensures.array
+    answered (ap (answer_to 0) (same_verdict _ judge_verdict (λ v. refl) (λ r. refl) _) ∙ entry.answer) c.tell.ensures

@@ -1,14 +1,15 @@
 -- `brine::brine_write_element` tells what `writing::write_element` answers, and leaves what it leaves. Assumes nothing.
-use Rattle.std.proofs.Common.{◌≡◌, length}
-use borrow.Author.Rules.{rules}
-use Rattle.brine.proofs.FrontLaws.{answered}
+use Rattle.std.proofs.Common.{refl, ap, ◌∙◌}
+use Rattle.writing.specs.Writing.{write_verdict}
+use Rattle.brine.specs.Front.{answer_to}
+use Rattle.brine.proofs.FrontLaws.{same_verdict, answered}
 use Rattle.brine.proofs.brine_write_element.Goals as goal
 
 pub returns : goal.returns
+unfolding write_verdict
 returns c =
     let entry = c.write_element-written.ensures in
-    let size : length c.args.answer.now ≡ 4 = search rules in
     record {
-      answered = answered 1 c.of_write.result c.args.answer.now c.of_write.ensures entry.answer size c.tell.ensures.number c.tell.ensures.array;
+      answered = answered (ap (answer_to 1) (same_verdict _ write_verdict (λ v. refl) (λ r. refl) _) ∙ entry.answer) c.tell.ensures;
       left = entry.buffer;
     }

@@ -1,27 +1,16 @@
--- `fit::has_face` meets its contract: the face at the index is tested, and what is left tells the same of the rest.
--- Assumes nothing.
-use Rattle.laws.proofs.WordLaws.{left-start}
+-- The test of each face's number is the test of each face. Assumes nothing.
+use Rattle.std.proofs.Common.{◌∙◌, ℕ, refl, rules, arith}
+use Rattle.std.proofs.lemmas.Iterator.{YieldsList-from_range}
+use Rattle.std.proofs.lemmas.Iterator.Search.{any_from_yields_List}
 use Rattle.solids.specs.Rotations.{same_face}
+use Rattle.records.specs.Elements.{seen}
 use Rattle.faces.specs.Faces.{face_of}
-use Rattle.fit.proofs.FaceSearchLaws.{face_here, face_next, face_end}
+use Rattle.fit.proofs.FaceSearchLaws.{nth_face, face_many, some_faces}
 use Rattle.fit.proofs.has_face.Goals as goal
-
-pub loop-i-init : goal.loop-i-init
-loop-i-init c = left-start _ _
-
-pub returns-then-same : goal.returns-then-same
-returns-then-same c =
-    let a = c.args in
-    face_here (same_face (face_of a.face)) a.solid a.corners.now c.face_count-n.ensures c.loop-i.invariant c.loop-i-test.true
-    c.face_of.ensures c.same.ensures c.if-same.true
-
-pub loop-i-preserved : goal.loop-i-preserved
-loop-i-preserved c =
-    let a = c.args in
-    face_next (same_face (face_of a.face)) a.solid a.corners.now c.face_count-n.ensures c.loop-i.invariant c.loop-i-test.true
-    c.face_of.ensures c.same.ensures c.if-same.false
 
 pub returns : goal.returns
 returns c =
-    let a = c.args in
-    face_end (same_face (face_of a.face)) a.solid a.corners.now c.face_count-n.ensures c.loop-i.invariant c.loop-i-test.false
+    let e = c.args.element in
+    let test = λ (i : ℕ). same_face (face_of c.args.face) (nth_face (seen e) i) in
+    any_from_yields_List test _ _ c.any.result c.any.ensures.ran (YieldsList-from_range 0 _ _ refl (omega (arith, c.face_count.ensures, face_many e.solid e.corners.now))) (λ x b q k. search rules)
+    ∙ some_faces (same_face (face_of c.args.face)) (seen e)

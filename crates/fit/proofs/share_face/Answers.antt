@@ -1,27 +1,14 @@
--- `fit::share_face` meets its contract: the face at the index is tested, and what is left tells the same of the rest.
--- Assumes nothing.
-use Rattle.laws.proofs.WordLaws.{left-start}
-use Rattle.solids.specs.Solids.{element}
-use Rattle.fit.proofs.FaceSearchLaws.{shared, face_here, face_next, face_end}
+-- The test of each face's number is the test of each face. Assumes nothing.
+use Rattle.std.proofs.Common.{◌∙◌, ℕ, refl, rules, arith}
+use Rattle.std.proofs.lemmas.Iterator.{YieldsList-from_range}
+use Rattle.std.proofs.lemmas.Iterator.Search.{any_from_yields_List}
+use Rattle.records.specs.Elements.{seen}
+use Rattle.fit.proofs.FaceSearchLaws.{shared, nth_face, face_many, some_faces}
 use Rattle.fit.proofs.share_face.Goals as goal
-
-pub loop-i-init : goal.loop-i-init
-loop-i-init c = left-start _ _
-
-pub returns-then-is_shared : goal.returns-then-is_shared
-returns-then-is_shared c =
-    let a = c.args in
-    face_here (shared a.vertices.now (element a.neighbour a.others.now)) a.solid a.corners.now c.face_count-n.ensures
-    c.loop-i.invariant c.loop-i-test.true c.face_of.ensures c.is_shared.ensures c.if-is_shared.true
-
-pub loop-i-preserved : goal.loop-i-preserved
-loop-i-preserved c =
-    let a = c.args in
-    face_next (shared a.vertices.now (element a.neighbour a.others.now)) a.solid a.corners.now c.face_count-n.ensures
-    c.loop-i.invariant c.loop-i-test.true c.face_of.ensures c.is_shared.ensures c.if-is_shared.false
 
 pub returns : goal.returns
 returns c =
-    let a = c.args in
-    face_end (shared a.vertices.now (element a.neighbour a.others.now)) a.solid a.corners.now c.face_count-n.ensures
-    c.loop-i.invariant c.loop-i-test.false
+    let e = c.args.element in
+    let test = λ (i : ℕ). shared c.args.vertices.now (seen c.args.neighbour) (nth_face (seen e) i) in
+    any_from_yields_List test _ _ c.any.result c.any.ensures.ran (YieldsList-from_range 0 _ _ refl (omega (arith, c.face_count.ensures, face_many e.solid e.corners.now))) (λ x b q k. search rules)
+    ∙ some_faces (shared c.args.vertices.now (seen c.args.neighbour)) (seen e)

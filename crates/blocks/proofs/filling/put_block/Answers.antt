@@ -1,24 +1,24 @@
 -- `blocks::filling::put_block` meets its contract: the block of the record, and its keys put where they belong.
 -- Assumes nothing.
-use Rattle.std.proofs.Common.{sym, ap, ◌∙◌, arith}
+use Rattle.std.proofs.Common.{◌≡◌, ap, ◌∙◌, map, length, arith}
+use lib.ListN.{length-map}
 use Rattle.laws.specs.Lent.{placed}
-use Rattle.blocks.proofs.BlockLaws.{block_long}
-use Rattle.blocks.proofs.FillLaws.{block_keys}
+use Rattle.solids.specs.Cut.{cut}
+use Rattle.records.specs.Record.{element_of}
+use Rattle.tets.specs.Tets.{key_of}
+use Rattle.blocks.proofs.FillLaws.{put-placed}
+use Rattle.blocks.proofs.RecordCutLaws.{cut-few}
 use Rattle.blocks.proofs.filling.put_block.Goals as goal
-
-pub put_keys-requires-clause-n_bound : goal.put_keys-requires-clause-n_bound
-put_keys-requires-clause-n_bound c = c.fill_block-count.ensures.few
-
-pub put_keys-requires-clause-n_in_bounds : goal.put_keys-requires-clause-n_in_bounds
-put_keys-requires-clause-n_in_bounds c = omega (arith, c.fill_block-count.ensures.few, c.requires.at_in_bounds)
-
-pub put_keys-requires-clause-block_long : goal.put_keys-requires-clause-block_long
-put_keys-requires-clause-block_long c = block_long c.fill_block-count.ensures
 
 pub returns : goal.returns
 returns c =
-    let h = c.fill_block-count.ensures in
+    let ts = cut (element_of c.args.numbers.now) in
+    let keys = c.as_slice-tets.ensures ∙ ap (map key_of) c.block_of-block.ensures in
+    let count : length c.as_slice-tets.result.now ≡ length ts = ap length keys ∙ length-map ts key_of in
     record {
-      count = sym h.many;
-      output = c.put_keys.ensures ∙ ap (placed c.args.keys.now c.args.at) (block_keys h);
+      stored = record {
+        count = count;
+        output = put-placed c.args.keys.now c.args.at c.copy_from_slice.new.self (omega (arith, ap length c.copy_from_slice.ensures.after)) ∙ ap (placed c.args.keys.now c.args.at) (c.copy_from_slice.ensures.after ∙ keys);
+      };
+      few = omega (arith, count, cut-few c.args.numbers.now c.requires.whole);
     }

@@ -1,10 +1,12 @@
--- `blocks::lowest::lowest_place` meets its contract. The loop's invariant: the lowest number behind the first i and its place. The measure is i.
+-- `blocks::lowest::lowest_place` meets its contract. The loop's invariant: of the numbers before i, the first of the lowest.
 -- Assumes nothing.
-use Rattle.blocks.proofs.LowestPlaceLaws.{Found}
+use Rattle.std.proofs.Common.{◌≡◌, get_or}
+use Rattle.std.specs.List.{IsFirstBest}
+use Rattle.blocks.proofs.LowestPlaceLaws.{below}
 use Rattle.blocks.proofs.lowest.lowest_place.Given as goal
 
 abbrev pub invariant-loop-i : goal.invariant-loop-i
-invariant-loop-i l = Found l.corners l.place.0 l.lowest.0 l.i
-
-abbrev pub decreases-loop-i : goal.decreases-loop-i
-decreases-loop-i l = l.i
+invariant-loop-i l = record {
+  best : IsFirstBest below l.corners l.i l.place;
+  number : l.lowest ≡ get_or l.corners l.place 0;
+}

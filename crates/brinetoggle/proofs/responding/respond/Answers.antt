@@ -1,15 +1,20 @@
--- `brinetoggle::responding::respond` leaves what the program writes. Assumes nothing.
+-- `brinetoggle::respond` leaves what the program writes. Assumes nothing.
 use borrow.Author.Rules.{rules}
-use Rattle.brinetoggle.proofs.RespondingLaws.{mesh_responded, refusal_responded}
+use Rattle.converting.proofs.PutTextLaws.{wrote-ok}
+use Rattle.brinetoggle.proofs.RespondingLaws.{mesh_responded, refusal-wrote, refusal_responded}
 use Rattle.brinetoggle.proofs.responding.respond.Goals as goal
 
-pub returns-in-Done : goal.returns-in-Done
-returns-in-Done c =
+pub returns-in-Ok : goal.returns-in-Ok
+returns-in-Ok c =
     let a = c.args in
-    mesh_responded a.input.now a.output.now _ c.convert.result c.requires (search rules) c.convert.ensures _ c.in-Done.is
+    mesh_responded a.input.now a.output.now _ c.convert.result c.requires (search rules) c.convert.ensures _ c.in-Ok.is
 
-pub returns-in-Refused : goal.returns-in-Refused
-returns-in-Refused c =
+pub unwrap-requires : goal.unwrap-requires
+unwrap-requires c = wrote-ok (refusal-wrote c.in-Err.refusal (search rules) (search rules) (search rules) c.write_refusal.ensures)
+
+pub returns-in-Err : goal.returns-in-Err
+returns-in-Err c =
     let a = c.args in
-    rw c.length_in.ensures
-    (refusal_responded a.input.now a.output.now _ c.convert.result c.requires (search rules) c.convert.ensures _ c.write_refusal-line.result _ (search rules) c.in-Refused.is c.write_refusal-line.ensures)
+    let wrote = refusal-wrote c.in-Err.refusal (search rules) (search rules) (search rules) c.write_refusal.ensures in
+    refusal_responded a.input.now a.output.now _ c.convert.result c.requires (search rules) c.convert.ensures _ c.unwrap.result _ (search rules) c.in-Err.is
+    (rw c.unwrap.ensures at wrote)

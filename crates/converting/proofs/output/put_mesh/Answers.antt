@@ -4,7 +4,7 @@ use Rattle.converting.proofs.output.put_mesh.Goals as goal
 
 pub returns : goal.returns
 returns c =
-    let a = c.args in
-    let r = c.requires in
-    mesh_put a.vertices.now a.vertex_count a.tetrahedra.now a.count r.good_vertices.few r.good_tetrahedra.few a.out.now r.room
-    c.put_vertices-first.ensures c.put_tetrahedra-second.ensures c.put_end-third.ensures
+    let vertices = c.args.vertices.now in
+    let tetrahedra = c.args.tetrahedra.now in
+    mesh_put vertices.numbers.now vertices.count tetrahedra.numbers.now tetrahedra.count vertices.good.few tetrahedra.good.few c.args.out.now c.requires
+    c.put_lines-first.ensures c.put_lines.ensures c.put_end.ensures

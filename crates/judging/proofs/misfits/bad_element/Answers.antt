@@ -1,45 +1,38 @@
--- The search goes on past an element with no misfit, whose places are filed, and ends at the first with one.
+-- The search goes on past an element with no misfit, which is filed, and ends at the first with one.
 -- Assumes nothing.
-use Rattle.std.proofs.Common.{◌≡◌, ◌∙◌, sym, ℕ, ◌+◌, ◌<◌, Bool, true, false, not, List, arith}
+use Rattle.std.proofs.Common.{◌≡◌, ◌∙◌, sym, ℕ, Bool, true, false, not, List, add-one}
 use borrow.Author.Tests.{not-true, not-false}
 use Rattle.laws.proofs.PassLaws.{failed_start, failed_here, failed_next, failed_end}
 use Rattle.judging.specs.Judge.{bad_element}
-use Rattle.judging.specs.ChainLoops.{Numbered, Joining}
-use Rattle.judging.proofs.ChainLaws.{filed-start, numbered-front}
+use Rattle.judging.specs.Chained.{Chained}
 use Rattle.judging.proofs.misfits.bad_element.Invariants.{bad, Going}
 use Rattle.judging.proofs.misfits.bad_element.Goals as goal
 
-joining : {t : List ℕ} {n j : ℕ} {heads links : List ℕ} → Numbered t n → Going t n j heads links → j < n → Joining t j heads links
-joining {t} {n} {j} m w h = record { table = numbered-front t n (j + 1) m (omega arith); filed = w.filed }
+-- what `fits_next` says of element j
+module _ {t : List ℕ} {n j : ℕ} {s : Chained} (w : Going t n j s) {r : Bool} (e : r ≡ not (bad s.table s.filed)) where
+  found : r ≡ false → bad t j ≡ true
+  found h = not-false (bad t j) (sym (rw w.chains at e) ∙ h)
 
--- what `fits_all` says of element j
-found : (t : List ℕ) (j : ℕ) {r : Bool} → r ≡ not (bad t j) → r ≡ false → bad t j ≡ true
-found t j e h = not-false (bad t j) (sym e ∙ h)
-
-passed : (t : List ℕ) (j : ℕ) {r : Bool} → r ≡ not (bad t j) → r ≡ true → bad t j ≡ false
-passed t j e h = not-true (bad t j) (sym e ∙ h)
+  passed : r ≡ true → bad t j ≡ false
+  passed h = not-true (bad t j) (sym (rw w.chains at e) ∙ h)
 
 pub loop-j-init : goal.loop-j-init
-loop-j-init c = record { failed = failed_start _ _; filed = filed-start c.args.table.now }
+loop-j-init c = record { failed = failed_start _ _; chains = c.new-chains.ensures }
 
-pub fits_all-requires : goal.fits_all-requires
-fits_all-requires c = joining c.requires c.loop-j.invariant c.loop-j-test.true
-
-pub returns-then-not-fits_all : goal.returns-then-not-fits_all
+pub returns-then-not-fits_next : goal.returns-then-not-fits_next
 unfolding bad_element
-returns-then-not-fits_all c =
+returns-then-not-fits_next c =
     let t = c.args.table.now in
-    failed_here (bad t) c.loop-j.invariant.failed c.loop-j-test.true (found t c.loop-j.j c.fits_all.ensures c.if-not-fits_all.true)
-
-pub file_places-requires : goal.file_places-requires
-file_places-requires c = joining c.requires c.loop-j.invariant c.loop-j-test.true
+    let i = c.loop-j.invariant in
+    sym (add-one c.loop-j.j) ∙ failed_here (bad t) i.failed c.loop-j-test.true (found i c.fits_next.ensures c.if-not-fits_next.true)
 
 pub loop-j-preserved : goal.loop-j-preserved
 loop-j-preserved c =
     let t = c.args.table.now in
+    let i = c.loop-j.invariant in
     record {
-      failed = failed_next (bad t) c.loop-j.invariant.failed c.loop-j-test.true (passed t c.loop-j.j c.fits_all.ensures c.if-not-fits_all.false);
-      filed = c.file_places.ensures;
+      failed = failed_next (bad t) i.failed c.loop-j-test.true (passed i c.fits_next.ensures c.if-not-fits_next.false);
+      chains = rw (c.file_next.ensures, i.chains);
     }
 
 pub returns : goal.returns

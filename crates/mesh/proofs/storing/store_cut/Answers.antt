@@ -2,8 +2,8 @@
 use Rattle.mesh.proofs.CutAnswerLaws.{no_room, with_room}
 use Rattle.mesh.proofs.storing.store_cut.Goals as goal
 
-pub returns-then-out-n : goal.returns-then-out-n
-returns-then-out-n c = no_room c.args.keys.now c.args.out.now c.args.n c.requires c.if-out-n.true
+pub returns-then-out-keys : goal.returns-then-out-keys
+returns-then-out-keys c = rw c.at.ensures (no_room c.args.keys.now c.args.out.now c.if-out-keys.true)
 
 pub returns : goal.returns
-returns c = with_room c.args.keys.now c.args.out.now c.args.n c.requires c.if-out-n.false c.put_tets.ensures
+returns c = with_room c.args.keys.now c.args.out.now c.if-out-keys.false c.put_tets.ensures

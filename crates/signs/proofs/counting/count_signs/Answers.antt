@@ -1,115 +1,105 @@
 -- One block more is counted; it lies among the keys, and no sum is above the limit. Assumes nothing.
-use Rattle.std.proofs.Common.{◌≡◌, ◌∙◌, refl, sym, ap, subst, ℕ, ◌+◌, ◌-◌, ◌≤◌, ◌<◌, List, [], ◌∷◌, ◌++◌, map, length, take, drop, get_or, ℤ, T, arith}
+use Rattle.std.proofs.Common.{◌≡◌, ◌∙◌, refl, sym, ap, subst, ℕ, ◌+◌, ◌≤◌, ◌<◌, List, [], ◌∷◌, ◌++◌, map, length, take, drop, get_or, ℤ, T, arith}
 use lib.ListN.{length-map, length-drop}
-use lib.Seq.{length-take-le, get_or-take, get_or-drop}
+use lib.Seq.{length-take-le, take_all, drop-drop, get_or-take, get_or-drop}
 use Rattle.tets.specs.Tets.{keyed}
 use Rattle.signs.specs.declared.SignCounts.{SignCounts}
 use Rattle.signs.specs.SignLoops.{parted, total, ranged_tet, RangedBlock, RangedBlocks, block_counts, of_counts, FewSums, Summed}
 use Rattle.signs.proofs.PartedLaws.{total-next, total-most, parted-none, parted-next, part-is}
-use Rattle.signs.proofs.SignCountLaws.{Bounded, counts_none, one_bounded, sums_few, sum_bounded, counts_joined}
+use Rattle.signs.proofs.SignCountLaws.{Bounded, zeros, counts_none, none_bounded, one_bounded, sums_few, sum_bounded, counts_joined}
 use Rattle.signs.proofs.counting.count_signs.Invariants.{Kept}
 use Rattle.signs.proofs.counting.count_signs.Goals as goal
 
-start : (keys sizes : List ℕ) (n : ℕ) (table : List ℤ) → Kept keys sizes n table (record { positive = 0; zero = 0; negative = 0; unsound = 0 }) 0 0
-start keys sizes n table = record {
-  up = omega arith;
-  begins = refl;
-  bounded = record { positive = omega arith; zero = omega arith; negative = omega arith; unsound = omega arith };
+start : (keys sizes : List ℕ) (table : List ℤ) {c : SignCounts} → c ≡ zeros → Kept keys sizes table c keys 0
+start keys sizes table e = rw e (record {
+  behind = refl;
+  bounded = none_bounded table;
   same = counts_none table ∙ ap (block_counts table) (sym (parted-none (map keyed keys) sizes));
-}
+})
 
-module _ {keys sizes : List ℕ} {n : ℕ} {table : List ℤ} {c : SignCounts} {at k : ℕ} (blocks : RangedBlocks table keys sizes n) (h : Kept keys sizes n table c at k) (q : k < n) where
-  abbrev size : ℕ
-  size = get_or sizes k 0
+module _ {keys sizes : List ℕ} {table : List ℤ} {c : SignCounts} {rest : List ℕ} {k : ℕ} (blocks : RangedBlocks table keys sizes) (h : Kept keys sizes table c rest k)
+    (q : k < length sizes) {size : ℕ} (s : size ≡ get_or sizes k 0) where
+  abbrev first : ℕ
+  first = total (take k sizes)
 
-  abbrev block : List ℕ
-  block = take (at + size - at) (drop at keys)
-
-  block_is : block ≡ take size (drop at keys)
-  block_is =
-      let e : at + size - at ≡ size = omega arith in
-      ap (λ (i : ℕ). take i (drop at keys)) e
-
-  inside : k < length sizes
-  inside = omega (arith, blocks.long)
-
-  size_few : size ≤ 6
-  size_few = blocks.small k q
-
-  ends : at + size ≡ total (take (k + 1) sizes)
-  ends = omega (arith, h.begins, total-next sizes k inside)
+  ends : total (take (k + 1) sizes) ≡ first + size
+  ends = omega (arith, total-next sizes k q)
 
   -- the block ends among the keys
-  within : at + size ≤ total (take n sizes)
-  within =
-      let up : k + 1 ≤ n = omega arith in
-      omega (arith, ends, total-most sizes up blocks.long)
+  within : first + size ≤ total sizes
+  within = omega (arith, ends, total-most sizes (k + 1) (omega arith))
 
-  room : at + size ≤ length keys
-  room = omega (arith, within, blocks.room)
+  room : size ≤ length rest
+  room = omega (arith, within, blocks.room, ap length h.behind, length-drop first keys)
 
-  block_length : length block ≡ size
-  block_length = ap length block_is ∙ length-take-le size (drop at keys) (rw (length-drop at keys) (omega (arith, room)))
+  module _ {block : List ℕ} (e : block ≡ take size rest) where
+    block_length : length block ≡ size
+    block_length = ap length e ∙ length-take-le size rest room
 
-  block_at : (j : ℕ) → j < size → get_or block j 0 ≡ get_or keys (at + j) 0
-  block_at j l = ap (λ (x : List ℕ). get_or x j 0) block_is ∙ get_or-take size (drop at keys) j 0 l ∙ get_or-drop at keys j 0
+    size_few : size ≤ 6
+    size_few = omega (arith, blocks.small k q)
 
-  block_ranged : RangedBlock table block
-  block_ranged = record {
-    few = omega (arith, block_length, size_few);
-    ranged = λ j l.
-        let m : j < size = omega (arith, block_length) in
-        subst (λ (x : ℕ). T (ranged_tet table (keyed x))) (sym (block_at j m)) (blocks.ranged (at + j) (omega (arith, within)));
-  }
+    block_at : (j : ℕ) → j < size → get_or block j 0 ≡ get_or keys (first + j) 0
+    block_at j l =
+        ap (λ (x : List ℕ). get_or x j 0) e ∙ get_or-take size rest j 0 l
+        ∙ ap (λ (x : List ℕ). get_or x j 0) h.behind ∙ get_or-drop first keys j 0
 
-  module _ {m : SignCounts} (f : of_counts m ≡ block_counts table (map keyed block ∷ [])) where
-    more_bounded : Bounded table 6 m
-    more_bounded = one_bounded table (map keyed block) (omega (arith, length-map block keyed, block_length, size_few)) f
-
-    few_sums : FewSums c m
-    few_sums = sums_few table h.bounded more_bounded (omega (arith, blocks.few))
-
-    step : {s : SignCounts} → Summed c m s → Kept keys sizes n table s (at + size) (k + 1)
-    step {s} g = record {
-      up = omega arith;
-      begins = ends;
-      bounded = subst (λ (x : ℕ). Bounded table x s) (omega arith) (sum_bounded table h.bounded more_bounded g);
-      same =
-          counts_joined table (parted (map keyed keys) (take k sizes)) (map keyed block ∷ []) h.same f g
-          ∙ ap (block_counts table) (sym (parted-next (map keyed keys) sizes k inside
-          ∙ ap (λ b. parted (map keyed keys) (take k sizes) ++ (b ∷ []))
-          (ap (λ (i : ℕ). take size (drop i (map keyed keys))) (sym h.begins) ∙ part-is keys at size ∙ ap (map keyed) (sym block_is))));
+    block_ranged : RangedBlock table block
+    block_ranged = record {
+      few = omega (arith, block_length, size_few);
+      ranged = λ j l.
+          let m : j < size = omega (arith, block_length) in
+          subst (λ (x : ℕ). T (ranged_tet table (keyed x))) (sym (block_at j m)) (blocks.ranged (first + j) (omega (arith, within)));
     }
 
-end : {keys sizes : List ℕ} {n : ℕ} {table : List ℤ} {c : SignCounts} {at k : ℕ} → Kept keys sizes n table c at k → n ≤ k
-    → of_counts c ≡ block_counts table (parted (map keyed keys) (take n sizes))
-end {keys} {sizes} {n} {table} {k} h l =
-    let e : k ≡ n = omega (arith, h.up) in
-    h.same ∙ ap (λ (i : ℕ). block_counts table (parted (map keyed keys) (take i sizes))) e
+    -- it is the next part of the keys
+    part : take (get_or sizes k 0) (drop first (map keyed keys)) ≡ map keyed block
+    part =
+        ap (λ (i : ℕ). take i (drop first (map keyed keys))) (sym s) ∙ part-is keys first size
+        ∙ ap (λ (x : List ℕ). map keyed (take size x)) (sym h.behind) ∙ ap (map keyed) (sym e)
 
-pub loop-k-init : goal.loop-k-init
-loop-k-init c = start c.args.keys.now c.args.sizes.now c.args.n c.args.vertices.now
+    module _ {m : SignCounts} (f : of_counts m ≡ block_counts table (map keyed block ∷ [])) where
+      more_bounded : Bounded table 6 m
+      more_bounded = one_bounded table (map keyed block) (omega (arith, length-map block keyed, block_length, size_few)) f
 
-pub bounds-sizes-k : goal.bounds-sizes-k
-bounds-sizes-k c = inside c.requires c.loop-k.invariant c.loop-k-test.true
+      few_sums : FewSums c m
+      few_sums = sums_few table h.bounded more_bounded (omega (arith, blocks.few))
 
-pub overflow_add-end : goal.overflow_add-end
-overflow_add-end c = omega (arith, room c.requires c.loop-k.invariant c.loop-k-test.true)
+      step : {r : SignCounts} → Summed c m r → {behind : List ℕ} → behind ≡ drop size rest → Kept keys sizes table r behind (k + 1)
+      step {r} g d = record {
+        behind = d ∙ ap (drop size) h.behind ∙ drop-drop size first keys ∙ ap (λ (i : ℕ). drop i keys) (sym ends);
+        bounded = subst (λ (x : ℕ). Bounded table x r) (omega arith) (sum_bounded table h.bounded more_bounded g);
+        same =
+            counts_joined table (parted (map keyed keys) (take k sizes)) (map keyed block ∷ []) h.same f g
+            ∙ ap (block_counts table) (sym (parted-next (map keyed keys) sizes k q
+            ∙ ap (λ b. parted (map keyed keys) (take k sizes) ++ (b ∷ [])) part));
+      }
 
-pub offset_bounds-keys-at : goal.offset_bounds-keys-at
-offset_bounds-keys-at c = omega (arith, room c.requires c.loop-k.invariant c.loop-k-test.true)
+end : {keys sizes : List ℕ} {table : List ℤ} {c : SignCounts} {rest : List ℕ} {k : ℕ} → Kept keys sizes table c rest k → length sizes ≤ k
+    → of_counts c ≡ block_counts table (parted (map keyed keys) sizes)
+end {keys} {sizes} {table} {k} h l =
+    h.same ∙ ap (λ (x : List ℕ). block_counts table (parted (map keyed keys) x)) (take_all k sizes l)
 
-pub slice_bounds-element_counts-end : goal.slice_bounds-element_counts-end
-slice_bounds-element_counts-end c = room c.requires c.loop-k.invariant c.loop-k-test.true
+pub loop-size-init : goal.loop-size-init
+loop-size-init c =
+    let e = c.default-counts.ensures in
+    start c.args.keys.now c.args.sizes.now c.args.vertices.now
+    (λ i. record { positive = e.0 i; zero = e.1.0 i; negative = e.1.1.0 i; unsound = e.1.1.1 i })
 
-pub element_counts-more-requires : goal.element_counts-more-requires
-element_counts-more-requires c = block_ranged c.requires c.loop-k.invariant c.loop-k-test.true
+pub split_at-requires : goal.split_at-requires
+split_at-requires c = room c.requires c.loop-size.invariant c.loop-size-test.true c.from.ensures
 
-pub sum_of-next-requires : goal.sum_of-next-requires
-sum_of-next-requires c = few_sums c.requires c.loop-k.invariant c.loop-k-test.true c.element_counts-more.ensures
+pub element_counts-requires : goal.element_counts-requires
+element_counts-requires c = block_ranged c.requires c.loop-size.invariant c.loop-size-test.true c.from.ensures c.split_at.ensures.front
 
-pub loop-k-preserved : goal.loop-k-preserved
-loop-k-preserved c = step c.requires c.loop-k.invariant c.loop-k-test.true c.element_counts-more.ensures c.sum_of-next.ensures
+pub add-requires : goal.add-requires
+add-requires c =
+    few_sums c.requires c.loop-size.invariant c.loop-size-test.true c.from.ensures c.split_at.ensures.front c.element_counts.ensures
+
+pub loop-size-preserved : goal.loop-size-preserved
+loop-size-preserved c =
+    step c.requires c.loop-size.invariant c.loop-size-test.true c.from.ensures c.split_at.ensures.front c.element_counts.ensures c.add.ensures
+    c.split_at.ensures.back
 
 pub returns : goal.returns
-returns c = end c.loop-k.invariant c.loop-k-test.false
+returns c = end c.loop-size.invariant c.loop-size-test.false

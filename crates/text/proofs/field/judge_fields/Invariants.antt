@@ -5,8 +5,8 @@ use Rattle.laws.specs.Pieces.{split}
 use Rattle.format.specs.Line.{fields_verdict}
 use Rattle.text.proofs.field.judge_fields.Given as goal
 
-abbrev pub invariant-loop-f : goal.invariant-loop-f
-invariant-loop-f l = fields_verdict l.state l.role (split space l.fn.s) ≡ fields_verdict l.state l.role (split space l.t)
+abbrev pub invariant-loop-field : goal.invariant-loop-field
+invariant-loop-field l = fields_verdict l.state l.role (split space l.fn.s) ≡ fields_verdict l.state l.role (split space l.rest)
 
-abbrev pub decreases-loop-f : goal.decreases-loop-f
-decreases-loop-f l = length l.t
+abbrev pub decreases-loop-field : goal.decreases-loop-field
+decreases-loop-field l = length l.rest

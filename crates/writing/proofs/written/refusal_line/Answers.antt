@@ -13,7 +13,7 @@ returns c =
     let r = c.args.refusal in
     let number : List ℕ = decimal (number_of r.fault) in
     let begun = line-start no_bytes c.put_two-no.ensures in
-    let first = line-field no_bytes [] number begun (rw c.number_of.ensures at c.number_field-number.ensures) in
+    let first = line-field no_bytes [] number begun (rw c.from.ensures at c.number_field-number.ensures) in
     let second = line-field no_bytes (number ∷ []) (decimal r.place) first c.number_field-place.ensures in
     let third = line-field no_bytes (number ∷ decimal r.place ∷ []) (decimal r.second) second c.number_field-second.ensures in
     put_two third c.push.ensures

@@ -1,0 +1,66 @@
+// The common vertices of two elements.
+ghost use Rattle.std.specs.Prelude.{◌≡◌, [], ◌∷◌, ◌++◌, ◌≤◌, ◌<◌, length};
+ghost use Rattle.limits.specs.Limits.{corner_width};
+ghost use Rattle.solids.specs.Fit.{common};
+ghost use Rattle.records.specs.Elements.{seen};
+
+use limits::CORNER_WIDTH;
+use records::Element;
+use std::marker::Model;
+
+// At most as many vertices as an element has corners.
+#[derive(Drop)]
+pub struct Common {
+    count: usize,
+    vertices: [u16; CORNER_WIDTH],
+}
+
+impl Model for Common {
+    ghost use Rattle.std.specs.Prelude.{List, ℕ, ◌≤◌, take};
+    ghost use Rattle.limits.specs.Limits.{corner_width};
+
+    ghost Value = { List ℕ };
+
+    ghost view = { λ c. take c.count c.vertices };
+
+    ghost invariant = { λ c. c.count ≤ corner_width };
+}
+
+impl Common {
+    fn new() -> Common
+        ensures { result ≡ [] }
+    {
+        Common {
+            count: 0,
+            vertices: [0; CORNER_WIDTH],
+        }
+    }
+
+    fn push(&mut self, vertex: u16)
+        requires { length self.old < corner_width }
+        ensures { self.new ≡ self.old ++ vertex ∷ [] }
+    {
+        self.vertices[self.count] = vertex;
+        self.count += 1;
+    }
+
+    // The corners of an element that are corners of its neighbour too, in their order.
+    pub fn of(element: Element, neighbour: Element) -> Common
+        requires { length element.corners.now ≤ corner_width }
+        ensures { result ≡ common (seen element.entry) (seen neighbour.entry) }
+    {
+        let mut common = Common::new();
+        for &vertex in element.corners {
+            if neighbour.corners.contains(&vertex) {
+                common.push(vertex);
+            }
+        }
+        common
+    }
+
+    pub fn as_slice(&self) -> &[u16]
+        ensures { result.now ≡ self.now }
+    {
+        &self.vertices[..self.count]
+    }
+}

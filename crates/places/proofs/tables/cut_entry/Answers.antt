@@ -1,9 +1,0 @@
--- `places::tables::cut_entry` meets its contract: the code's table of cuts is the page's.
--- Assumes nothing.
-use Rattle.std.proofs.Common.{refl}
-use Rattle.solids.specs.Rows.{hex_rows, cut_places}
-use Rattle.places.proofs.tables.cut_entry.Goals as goal
-
-pub returns : goal.returns
-unfolding cut_places hex_rows
-returns c = refl

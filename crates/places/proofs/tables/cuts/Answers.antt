@@ -1,9 +1,0 @@
--- `places::tables::cuts` meets its contract: the code's table of cuts is the page's.
--- Assumes nothing.
-use Rattle.std.proofs.Common.{refl}
-use Rattle.solids.specs.Rows.{hex_rows, cut_places}
-use Rattle.places.proofs.tables.cuts.Goals as goal
-
-pub returns : goal.returns
-unfolding cut_places hex_rows
-returns c = refl
