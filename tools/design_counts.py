@@ -21,10 +21,11 @@ def code(line):
     return not line.lstrip().startswith(("//", "ghost", "requires", "ensures"))
 
 
+# each function with a body: its name, its signature without clauses, its body; the body's brace ends the signature's line, or stands on one of its own behind clauses
 def functions():
     for f, s in FILES.items():
         s = re.sub(r"//[^\n]*", "", s)
-        for m in re.finditer(r"^( *)(?:pub )?fn (\w+)(.*?)\n\1\{\n(.*?)\n\1\}", s, re.M | re.S):
+        for m in re.finditer(r'^( *)(?:pub )?(?:extern "C" )?fn (\w+)((?:(?!;\n|\{\}\n).)*?)(?: |\n\1)\{\n(.*?)\n\1\}', s, re.M | re.S):
             yield f, m.group(2), re.split(r"\n\s*(?:requires|ensures)", m.group(3))[0], m.group(4)
 
 

@@ -8,7 +8,7 @@ ghost use Rattle.blocks.specs.BlockLoops.{AscendingFrom};
 use std::marker::Model;
 use tets::{Tet, written_form};
 
-// The keys of at most six tetrahedra, in ascending order.
+// The keys of at most six tetrahedra, in ascending order; no array list of another crate, since the library stands on std alone.
 #[derive(Drop)]
 pub struct Block {
     keys: [u64; 6],
@@ -40,6 +40,7 @@ impl Block {
         requires { length self.old < 6 }
         ensures { self.new ≡ insert (written (tet_of tet)) self.old }
     {
+        // Not by `position` and `copy_within`, which was slower: 218 against 132 nanoseconds for a shuffled hexahedron.
         let mut key = u64::from(written_form(tet));
         for other in self.keys[..self.len].iter_mut() {
             let lower = key.min(*other);

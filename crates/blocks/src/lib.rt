@@ -15,6 +15,7 @@ mod rows;
 
 // Judges a table and cuts it: each element's keys, one block after the other, and each element's number of tetrahedra; the answer is how many
 // tetrahedra there are, and a refusal writes nothing.
+// The first three parameters are the table as C hands it on; the keys and sizes come apart, each in an array as long as the limits allow.
 pub fn cut_blocks(
     vertex_count: usize,
     element_count: usize,

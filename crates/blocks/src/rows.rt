@@ -49,6 +49,7 @@ fn diagonals(corners: &[u16], low: Vertex, high: Vertex) -> usize
         solid: Solid::Hexahedron,
         corners,
     };
+    // Not by `fold`, whose closure would have to know at each call that the choice stays below 64: that did not prove.
     let mut choice = 0;
     for i in (0..6).rev() {
         choice = with_bit(choice, low, high, faces::face_of(hexahedron, i));

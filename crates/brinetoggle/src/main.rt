@@ -11,6 +11,7 @@ ghost use Rattle.std.specs.Process.{exit_status};
 ghost use Rattle.converting.specs.Conversion.{program_output};
 
 use converting::LONGEST_OUTPUT;
+use limits::FILE_LIMIT;
 use reading::read_input;
 use responding::respond;
 use std::io::{Read, Write};
@@ -18,7 +19,7 @@ use std::process::ExitCode;
 use words::{explain, explain_failure};
 
 // One byte past the longest file, so that LONG is seen.
-const INPUT_ROOM: usize = 65537;
+const INPUT_ROOM: usize = FILE_LIMIT + 1;
 
 fn main(rt: HostRuntime) -> ExitCode {
     run(&rt, &mut rt.stdin(), &mut rt.stdout())

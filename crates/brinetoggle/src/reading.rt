@@ -11,6 +11,7 @@ pub fn read_input<I: Read>(input: &mut I, room: &mut [u8]) -> io::Result<usize>
     ensures bytes { InputReads (I.remaining input.old) result room.new }
 {
     let mut at = 0;
+    // No `for`, since each read says how far it came, and no `read_exact`, since the input may end anywhere.
     while at < room.len() {
         let n = input.read(&mut room[at..])?;
         if n == 0 {

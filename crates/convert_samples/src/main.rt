@@ -3,10 +3,9 @@
 #![tactic(auto)]
 
 use converting::convert;
-use faults::Refusal;
 use std::io;
-use writing::write_refusal;
 
+// As in `writer_samples`: a sample program stands on its own.
 fn print_part(rt: &impl Print, buffer: &[u8], n: usize) -> io::Result<()> {
     match buffer.get(..n) {
         Some(part) => rt.write_all(part),
@@ -14,19 +13,11 @@ fn print_part(rt: &impl Print, buffer: &[u8], n: usize) -> io::Result<()> {
     }
 }
 
-fn print_refusal(rt: &impl Print, refusal: Refusal) -> io::Result<()> {
-    let mut line = [0u8; 48];
-    match write_refusal(refusal, &mut line) {
-        Ok(n) => print_part(rt, &line, n),
-        Err(_) => Ok(()),
-    }
-}
-
 // A file converted: the text, or the line of the refusal.
 fn converted(rt: &impl Print, file: &[u8], output: &mut [u8]) -> io::Result<()> {
     match convert(file, output) {
         Ok(n) => print_part(rt, output, n),
-        Err(refusal) => print_refusal(rt, refusal),
+        Err(refusal) => println!(rt; "{refusal}"),
     }
 }
 

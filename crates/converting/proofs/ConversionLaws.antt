@@ -2,9 +2,10 @@
 -- Assumes nothing.
 use mathlib.Core.Path.{◌≡◌, refl}
 use mathlib.Core.List.{List}
-use Prim.Native.Nat.{ℕ, ◌*◌, ◌≤◌}
+use Prim.Native.Nat.{ℕ, ◌*◌, ◌/◌, ◌≤◌}
 use native.Mathlib.Omega.{arith}
 use lib.IntN.{ℤ}
+use Rattle.std.proofs.Math.Nat.{mul-div_cancel_left}
 use lib.ListN.{length, take, length-take}
 use mir.Syntax.{w64}
 use mir.Val.{Fits}
@@ -41,8 +42,13 @@ module _ {v n : ℕ} {t : List ℕ} {count : ℕ} {new : List ℕ} (s : Stored v
   pub cutting_room : tetrahedron_width * count ≤ length new
   cutting_room = part-within new s.end
 
-  pub cutting_good : v ≤ vertex_limit → GoodTetrahedra (take (tetrahedron_width * count) new) count
-  cutting_good h = rw (s.numbers, s.many) (cut_tetrahedra v n t cut_room s.tetrahedra s.verdict h)
+  -- the table that is written has as many tetrahedra as were cut
+  pub cutting-count : length (take (tetrahedron_width * count) new) / tetrahedron_width ≡ count
+  cutting-count = rw (← s.end) (mul-div_cancel_left count (omega arith))
+
+  pub cutting_good : v ≤ vertex_limit
+      → GoodTetrahedra (take (tetrahedron_width * count) new) (length (take (tetrahedron_width * count) new) / tetrahedron_width)
+  cutting_good h = rw (cutting-count, s.numbers, s.many) (cut_tetrahedra v n t cut_room s.tetrahedra s.verdict h)
 
 module _ (vertices : List ℤ) (v : ℕ) (elements : List ℕ) (n : ℕ) (old : List ℕ) where
   pub cutting_refused : {r : Refusal} → cut_of v n elements cut_room ≡ refused r → Left (cut_verdict vertices v elements n (length old)) old (Err r) old
@@ -50,10 +56,10 @@ module _ (vertices : List ℤ) (v : ℕ) (elements : List ℕ) (n : ℕ) (old : 
   cutting_refused e = left_refused old (rw e) refl
 
   pub cutting_written : {count : ℕ} {numbers new : List ℕ} {r : Result ℕ Refusal} (s : Stored v n elements count numbers)
-      → Left (in_room (length old) (mesh_text vertices v (take (tetrahedron_width * count) numbers) count)) old r new
+      → Left (in_room (length old) (mesh_text vertices v (take (tetrahedron_width * count) numbers) (length (take (tetrahedron_width * count) numbers) / tetrahedron_width))) old r new
       → Left (cut_verdict vertices v elements n (length old)) old r new
   unfolding cut_verdict
-  cutting_written s w = rw (s.verdict, cut_text_lem vertices v s.tetrahedra) (rw (s.numbers, s.many) at w)
+  cutting_written s w = rw (s.verdict, cut_text_lem vertices v s.tetrahedra) (rw (cutting-count s, s.numbers, s.many) at w)
 
 -- ---- a file that was read
 
@@ -63,19 +69,24 @@ room_last : (room : ℕ) (f : List (Tet Vertex) → List ℕ) (x : Verdict (List
 room_last room f (accepted ts) = refl
 room_last room f (refused r) = refl
 
+module _ {input : List ℕ} {v n : ℕ} {vertices : List ℤ} {elements : List ℕ} (s : Read input v n vertices elements) where
+  -- the table that is cut has as many vertices as were read
+  pub vertices-count : length (take (vertex_width * v) vertices) / vertex_width ≡ v
+  vertices-count = rw (← s.vertex_end) (mul-div_cancel_left v (omega arith))
+
 module _ (input old : List ℕ) where
   pub reading-refused : {r : Refusal} → file_verdict rooms input ≡ refused r → ConvertDone input old (Err r) old
   unfolding conversion_into conversion
   reading-refused e = record { left = left_refused old (rw e) refl }
 
   pub reading-written : {v n : ℕ} {vertices : List ℤ} {elements new : List ℕ} {r : Result ℕ Refusal} (s : Read input v n vertices elements)
-      → Left (cut_verdict (take (vertex_width * v) vertices) v (take (element_width * n) elements) n (length old)) old r new
+      → Left (cut_verdict (take (vertex_width * v) vertices) (length (take (vertex_width * v) vertices) / vertex_width) (take (element_width * n) elements) n (length old)) old r new
       → ConvertDone input old r new
   unfolding conversion_into conversion cut_verdict
   reading-written {v} {n} s w = record {
     left =
         rw (s.verdict, room_last (length old) (cut_text (stored_vertices rooms input) v) (cut_of v n (stored_elements rooms input) cut_room))
-        (rw (s.vertex_numbers, s.element_numbers) at w);
+        (rw (vertices-count s, s.vertex_numbers, s.element_numbers) at w);
   }
 
 module _ {input : List ℕ} {v n : ℕ} {vertices : List ℤ} {elements : List ℕ} (s : Read input v n vertices elements) where
@@ -91,5 +102,5 @@ module _ {input : List ℕ} {v n : ℕ} {vertices : List ℤ} {elements : List �
   pub elements-within : element_width * n ≤ length elements
   elements-within = part-within elements s.element_end
 
-  pub vertices_good : GoodVertices (take (vertex_width * v) vertices) v
-  vertices_good = rw s.vertex_numbers s.good
+  pub vertices_good : GoodVertices (take (vertex_width * v) vertices) (length (take (vertex_width * v) vertices) / vertex_width)
+  vertices_good = rw (vertices-count s, s.vertex_numbers) s.good

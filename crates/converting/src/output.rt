@@ -1,6 +1,6 @@
 // The text of a cut mesh, put from the front of lent memory: vertices, tetrahedra, EN.
-ghost use Rattle.std.specs.Prelude.{◌≡◌, ℕ, List, ◌*◌, ◌<◌, ◌≤◌, length};
-ghost use Rattle.limits.specs.Limits.{vertex_limit, tetrahedron_limit};
+ghost use Rattle.std.specs.Prelude.{◌≡◌, ℕ, List, ◌*◌, ◌/◌, ◌<◌, ◌≤◌, length};
+ghost use Rattle.limits.specs.Limits.{vertex_limit, tetrahedron_limit, vertex_width, tetrahedron_width};
 ghost use Rattle.writing.specs.Written.{closed, end_line};
 ghost use Rattle.converting.specs.Converting.{longest_output, longest_vertex, longest_tetrahedron, longest_end};
 ghost use Rattle.converting.specs.ConversionLoops.{Put, vertex_text, tetrahedron_text, text_to, mesh_text, GoodVertices, GoodTetrahedra};
@@ -10,24 +10,22 @@ use records::tetrahedron_record;
 use solids::Vertex;
 use writing::{write_element, write_end, write_vertex};
 
-// So many vertices within the limits, three numbers each.
+// Vertices within the limits, three numbers each.
 #[derive(Clone, Copy)]
 pub struct Vertices<'a> {
     pub numbers: &'a [i32],
-    pub count: usize,
-    ghost good: { GoodVertices numbers.now count },
+    ghost good: { GoodVertices numbers.now (length numbers.now / vertex_width) },
 }
 
-// So many tetrahedra without a fault, four numbers each.
+// Tetrahedra without a fault, four numbers each.
 #[derive(Clone, Copy)]
 pub struct Tetrahedra<'a> {
     pub numbers: &'a [u16],
-    pub count: usize,
-    ghost good: { GoodTetrahedra numbers.now count },
+    ghost good: { GoodTetrahedra numbers.now (length numbers.now / tetrahedron_width) },
 }
 
 // Records that are written one a line.
-trait Lines {
+pub trait Lines {
     // How many there are, the line of record k, from 0, and how long a line is at most.
     ghost count: { Self → ℕ };
 
@@ -46,14 +44,14 @@ trait Lines {
 }
 
 impl Lines for Vertices<'_> {
-    ghost count = { λ vertices. vertices.count };
+    ghost count = { λ vertices. length vertices.numbers.now / vertex_width };
 
     ghost line = { λ vertices. vertex_text vertices.numbers.now };
 
     ghost longest = { longest_vertex };
 
     fn count(&self) -> usize {
-        self.count
+        self.numbers.len() / VERTEX_WIDTH
     }
 
     fn put(&self, k: usize, out: &mut [u8]) -> usize {
@@ -64,14 +62,14 @@ impl Lines for Vertices<'_> {
 }
 
 impl Lines for Tetrahedra<'_> {
-    ghost count = { λ tetrahedra. tetrahedra.count };
+    ghost count = { λ tetrahedra. length tetrahedra.numbers.now / tetrahedron_width };
 
     ghost line = { λ tetrahedra. tetrahedron_text tetrahedra.numbers.now };
 
     ghost longest = { longest_tetrahedron };
 
     fn count(&self) -> usize {
-        self.count
+        self.numbers.len() / TETRAHEDRON_WIDTH
     }
 
     fn put(&self, k: usize, out: &mut [u8]) -> usize {
@@ -111,9 +109,9 @@ fn put_end(vertices: usize, tetrahedra: usize, out: &mut [u8]) -> usize
 // All vertices, all tetrahedra, then EN with their counts; the length of the text.
 pub fn put_mesh(vertices: &Vertices<'_>, tetrahedra: &Tetrahedra<'_>, out: &mut [u8]) -> usize
     requires { longest_output ≤ length out.old }
-    ensures { Put longest_output (mesh_text vertices.now.numbers.now vertices.now.count tetrahedra.now.numbers.now tetrahedra.now.count) out.old result out.new }
+    ensures { Put longest_output (mesh_text vertices.now.numbers.now (length vertices.now.numbers.now / vertex_width) tetrahedra.now.numbers.now (length tetrahedra.now.numbers.now / tetrahedron_width)) out.old result out.new }
 {
     let first = put_lines(vertices, out);
     let second = first + put_lines(tetrahedra, &mut out[first..]);
-    second + put_end(vertices.count, tetrahedra.count, &mut out[second..])
+    second + put_end(vertices.count(), tetrahedra.count(), &mut out[second..])
 }

@@ -52,7 +52,7 @@ const HEXAHEDRON: [[u8; 2]; 12] = [
     [4, 8],
 ];
 
-// The edges of a solid.
+// The edges of a solid; the faces are a table of another room, and the two no plainer as one.
 #[tactic(auto, unfolding(crate::specs::EdgePlaces::edge_places))]
 fn edges_of(solid: Solid) -> &'static [[u8; 2]]
     ensures { result.now ≡ edge_places solid }

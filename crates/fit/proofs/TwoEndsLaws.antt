@@ -5,8 +5,9 @@ use mathlib.Core.Bool.{Bool, true, false, cond, not, ◌&&◌, ◌||◌}
 use mathlib.Core.List.{List, [], ◌∷◌}
 use mathlib.Core.Logic.{◌⊎◌, inl, inr}
 use Prim.Native.Nat.{ℕ, ◌<◌}
-use Rattle.std.specs.Prelude.{Some, None}
+use Rattle.std.specs.Prelude.{Option, Some, None}
 use Rattle.std.specs.List.{find}
+use Rattle.std.specs.Option.{option_map, unwrap_or}
 use native.Mathlib.Omega.{arith}
 use native.Mathlib.Nat.{not-suc-le-zero}
 use lib.Dec.{T, eqb}
@@ -15,6 +16,7 @@ use borrow.Author.Tests.{eqb-true, eqb-false, eq-eqb}
 use Rattle.laws.specs.Words.{some, every, among}
 use Rattle.laws.proofs.TestLaws.{T_true, true-T, and_left, and_right}
 use Rattle.laws.proofs.EveryLaws.{some_at}
+use Rattle.solids.specs.declared.Vertex.{Vertex}
 use Rattle.solids.specs.Solids.{Edge, edge, Element, ends, element_edges}
 use Rattle.solids.specs.Fit.{same_set, has_edge}
 use Rattle.solids.proofs.SetLaws.{Sub, among_first, among_later, among_cases, sub_every, every_sub, same_set_lem, set_there, set_back}
@@ -22,7 +24,7 @@ use Rattle.fit.specs.SetLoops.{other_than}
 use Rattle.edges.proofs.EdgeLaws.{either}
 
 -- the first vertex that is found to be another than u
-pub other_found : (u v : ℕ) (vs : List ℕ) → Some v ≡ find (λ w. not (eqb u w)) vs → v ≡ other_than u vs
+other_found : (u v : ℕ) (vs : List ℕ) → Some v ≡ find (λ w. not (eqb u w)) vs → v ≡ other_than u vs
 other_found u v [] e = cc
 other_found u v (w ∷ vs) e = go (eqb u w) e (other_found u v vs)
   where
@@ -30,13 +32,18 @@ other_found u v (w ∷ vs) e = go (eqb u w) e (other_found u v vs)
     go true f rest = rest f
     go false f rest = cc
 
-pub other-missing : (u : ℕ) (vs : List ℕ) → None ≡ find (λ w. not (eqb u w)) vs → u ≡ other_than u vs
+other-missing : (u : ℕ) (vs : List ℕ) → None ≡ find (λ w. not (eqb u w)) vs → u ≡ other_than u vs
 other-missing u [] e = refl
 other-missing u (w ∷ vs) e = go (eqb u w) e (other-missing u vs)
   where
     go : (b : Bool) → None ≡ cond (not b) (Some w) (find (λ x. not (eqb u x)) vs) → (None ≡ find (λ x. not (eqb u x)) vs → u ≡ other_than u vs) → u ≡ cond b (other_than u vs) w
     go true f rest = rest f
     go false f rest = cc
+
+-- the vertex that is found, and u where none is
+pub other_or : (u : Vertex) (vs : List ℕ) (r : Option Vertex) → option_map (λ w. w.0) r ≡ find (λ w. not (eqb u.0 w)) vs → {v : Vertex} → v ≡ unwrap_or r u → v.0 ≡ other_than u.0 vs
+other_or u vs None e f = ap (λ (w : Vertex). w.0) f ∙ other-missing u.0 vs e
+other_or u vs (Some w) e f = ap (λ (x : Vertex). x.0) f ∙ other_found u.0 w.0 vs e
 
 -- the other vertex is among the vertices, or is u
 other_in : (u : ℕ) (c : List ℕ) → T (among (other_than u c) (u ∷ c))

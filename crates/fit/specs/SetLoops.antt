@@ -1,4 +1,4 @@
--- Lists of vertices as sets, as the private module sets goes through them; proofs/TwoEndsLaws.antt says what they have to do with edges.
+-- Lists of vertices as sets, as the private function share_any_edge takes them; proofs/TwoEndsLaws.antt says what they have to do with edges.
 use Rattle.std.specs.Prelude.{cond, List, [], ◌∷◌, eqb}
 use Rattle.solids.specs.Solids.{Vertex}
 

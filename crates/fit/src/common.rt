@@ -8,7 +8,7 @@ use limits::CORNER_WIDTH;
 use records::Element;
 use std::marker::Model;
 
-// At most as many vertices as an element has corners.
+// At most as many vertices as an element has corners; a dozen lines of our own, because the house stands on std alone and crates.txt lists no library of arrays with a length.
 #[derive(Drop)]
 pub struct Common {
     count: usize,

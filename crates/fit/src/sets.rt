@@ -1,10 +1,11 @@
 // Lists of vertex numbers as sets.
 ghost use Rattle.std.specs.Prelude.{◌≡◌, not, ◌&&◌, eqb};
+ghost use Rattle.std.specs.List.{find};
+ghost use Rattle.std.specs.Option.{option_map};
 ghost use Rattle.laws.specs.Words.{among, every};
 ghost use Rattle.solids.specs.Solids.{of_face};
 ghost use Rattle.solids.specs.Fit.{same_set};
 ghost use Rattle.faces.specs.Faces.{face_of};
-ghost use Rattle.fit.specs.SetLoops.{other_than};
 
 use faces::Face;
 use solids::Vertex;
@@ -30,14 +31,11 @@ pub fn are_apart(u: Vertex, v: Vertex, w: Vertex) -> bool
     u != v && u != w && v != w
 }
 
-// The first of the vertices that is another than u, or u where there is none.
-pub fn other_than(u: Vertex, vertices: &[u16]) -> Vertex
-    ensures { result.0 ≡ other_than u.0 vertices.now }
+// The first of the vertices that is another than u.
+pub fn other_than(u: Vertex, vertices: &[u16]) -> Option<Vertex>
+    ensures { option_map (λ v. v.0) result ≡ find (λ v. not (eqb u.0 v)) vertices.now }
 {
-    match vertices.iter().find(|&&v| u.0 != v) {
-        Some(&v) => Vertex(v),
-        None => u,
-    }
+    vertices.iter().find(|&&v| u.0 != v).map(|&v| Vertex(v))
 }
 
 // The vertices are all those of the face.

@@ -3,6 +3,7 @@
 #![tactic(auto)]
 
 // The mark of a line, by the page's name; `Unknown` is any other, and that of a line too short for one.
+// `Unknown` is a variant and no `None`: code and definitions share these types, and an unknown mark is one of the page's cases.
 #[derive(Clone, Copy, Debug, PartialEq, Eq)]
 pub enum Mark {
     Vx,
@@ -15,7 +16,7 @@ pub enum Mark {
     Unknown,
 }
 
-// What a line is, by its mark.
+// What a line is, by its mark; `UnknownLine` is a variant as `Unknown` is.
 #[derive(Clone, Copy, Debug, PartialEq, Eq)]
 pub enum Role {
     VertexLine,

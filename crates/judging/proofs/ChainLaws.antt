@@ -154,6 +154,13 @@ module _ (limit : ℕ) (few : limit ≤ vertex_limit) where
               subst (λ (v : ℕ). T (low_number v)) (here x a e)
               (faultless_low (record_at t (x / element_width)) (clean_faultless limit (record_at t (x / element_width)) (record_clean limit t n none (x / element_width) (omega arith))) a (omega arith))
 
+-- what a numbered table is up to one of its elements
+pub numbered-next : {t : List ℕ} {n j : ℕ} → j < n → Numbered t n → Numbered t (j + 1)
+numbered-next l h = record {
+  table = record { few = omega (arith, h.table.few); long = omega (arith, h.table.long); whole = λ k m. h.table.whole k (omega arith) };
+  low = λ x m p. h.low x (omega arith) p;
+}
+
 -- the pairs of a table may be judged once its records are
 pub recorded_numbered : (v n : ℕ) (t : List ℕ) → Recorded v n t → Numbered t n
 recorded_numbered v n t h = clean-numbered v h.few t n h.table h.clean

@@ -24,7 +24,8 @@ pub record Filed (t : List ℕ) (m : ℕ) (heads links : List ℕ) : Type 0 wher
   pub first : (v : ℕ) → v ≤ vertex_limit → get_or heads v 0 ≡ latest (holds t v) m
   pub next : (x : ℕ) → x < m → 0 < x % element_width → get_or links x 0 ≡ latest (holds t (get_or t x 0)) x
 
--- what chains are to who uses them: a table, and how many of its elements are filed
+-- what chains are to who uses them: a table, how many elements it has, and how many of them are filed
 pub record Chained : Type 0 where
   pub table : List ℕ
+  pub count : ℕ
   pub filed : ℕ

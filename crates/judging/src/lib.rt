@@ -4,9 +4,11 @@
 ghost use Rattle.judging.specs.Judge.{JudgeDone};
 
 use faults::Refusal;
+use numbered::NumberedTable;
 
 mod chains;
 mod misfits;
+mod numbered;
 mod pairs;
 
 // Judges a table: MANY, ROOM, each record in order, each pair by lowest j and then lowest i.
@@ -18,5 +20,8 @@ pub fn judge_mesh(
     ensures { JudgeDone vertex_count element_count elements.now result }
 {
     tables::judge_records(vertex_count, element_count, elements)?;
-    pairs::judge_pairs(elements, element_count)
+    pairs::judge_pairs(NumberedTable {
+        elements,
+        count: element_count,
+    })
 }

@@ -1,10 +1,10 @@
 // Whether the elements of a table fit together: the search for the first pair that does not fit. The verdict of a pair is that of the room fit.
 ghost use Rattle.std.specs.Prelude.{◌≡◌, MatchOption};
 ghost use Rattle.judging.specs.Judge.{pair_fits, misfit, bad_element};
-ghost use Rattle.judging.specs.Chained.{Numbered};
 ghost use Rattle.judging.specs.FirstPair.{from_one, BadPair};
 
 use crate::chains::Chains;
+use crate::numbered::NumberedTable;
 
 // Elements i and j fit.
 #[tactic(auto, using(crate::proofs::ChainLaws::pair_verdict))]
@@ -21,13 +21,12 @@ fn misfit_of(table: &[u16], j: usize) -> Option<usize>
     (0..j).find(|&i| !pair_fits(table, i, j))
 }
 
-// The lowest of n elements that has a misfit.
-fn bad_element(table: &[u16], n: usize) -> Option<usize>
-    requires { Numbered table.now n }
-    ensures { from_one result ≡ bad_element table.now n }
+// The lowest element that has a misfit.
+fn bad_element(table: NumberedTable) -> Option<usize>
+    ensures { from_one result ≡ bad_element table.entry.elements.now table.entry.count }
 {
     let mut chains = Chains::new(table);
-    for j in 0..n {
+    for j in 0..table.count {
         if !chains.fits_next() {
             return Some(j);
         }
@@ -37,11 +36,10 @@ fn bad_element(table: &[u16], n: usize) -> Option<usize>
 }
 
 // The first pair that does not fit, by its lowest j and then its lowest i: j and i.
-pub fn bad_pair(table: &[u16], n: usize) -> Option<(usize, usize)>
-    requires { Numbered table.now n }
-    ensures { MatchOption result (bad_element table.now n ≡ 0) (λ p. BadPair table.now n p.0 p.1) }
+pub fn bad_pair(table: NumberedTable) -> Option<(usize, usize)>
+    ensures { MatchOption result (bad_element table.entry.elements.now table.entry.count ≡ 0) (λ p. BadPair table.entry.elements.now table.entry.count p.0 p.1) }
 {
-    let j = bad_element(table, n)?;
-    let i = misfit_of(table, j)?;
+    let j = bad_element(table)?;
+    let i = misfit_of(table.elements, j)?;
     Some((j, i))
 }

@@ -17,6 +17,7 @@ pub struct CutCounts {
 }
 
 // Cuts a table into tetrahedra: judges it, then the output's room; a refusal writes nothing.
+// The first three parameters are the table as C hands it on.
 pub fn cut_mesh(
     vertex_count: usize,
     element_count: usize,
@@ -25,6 +26,7 @@ pub fn cut_mesh(
 ) -> Result<CutCounts, Refusal>
     ensures { CutDone vertex_count element_count elements.now tetrahedra.old result tetrahedra.new }
 {
+    // What `cut_blocks` leaves, in arrays as long as the limits allow: memory is fixed.
     let mut keys = [0u64; TETRAHEDRON_LIMIT];
     let mut sizes = [0u8; ELEMENT_LIMIT];
     let count = cut_blocks(vertex_count, element_count, elements, &mut keys, &mut sizes)?;

@@ -105,7 +105,7 @@ pub fn coordinate(t: &[u8]) -> Result<i32, Fault>
     }
 }
 
-// The thousandths of a coordinate field, 0 where it is none.
+// The thousandths of a coordinate field, 0 where it is none, as the definition `thousandths_of` has it.
 #[tactic(auto, unfolding(format::specs::Number::thousandths_of))]
 pub fn thousandths(t: &[u8]) -> i32
     ensures { result ≡ thousandths_of t.now }
@@ -121,7 +121,7 @@ pub fn number(t: &[u8]) -> Option<u32>
     whole(t, NUMBER_DIGITS)
 }
 
-// A vertex number or count, 0 where it is none.
+// A vertex number or count, 0 where it is none, as the definition `value_of` has it.
 #[tactic(auto, unfolding(format::specs::Number::value_of), using(format::proofs::NumberLaws::number_small))]
 pub fn value(t: &[u8]) -> u16
     ensures { result ≡ value_of t.now }

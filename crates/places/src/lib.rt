@@ -31,6 +31,7 @@ pub fn face_place(solid: Solid, face: usize, corner: usize) -> Place
 }
 
 // The place `at` of a row of the hexahedron's cuts, both from 0; none where there is no such place.
+// None is 0, as for a face: the page fills the sixth tetrahedron of a five-row with zeros.
 pub fn row_place(row: usize, at: usize) -> Place
     ensures { result.0 ≡ row_place row at }
 {

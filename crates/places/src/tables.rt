@@ -32,7 +32,7 @@ const HEXAHEDRON: [[u8; 4]; 6] = [
     [3, 4, 8, 7],
 ];
 
-// The faces of a solid.
+// The faces of a solid; the edges are a table of another room, and the two no plainer as one.
 #[tactic(auto, unfolding(crate::specs::PlaceLoops::face_rows))]
 pub fn faces_of(solid: Solid) -> &'static [[u8; 4]]
     ensures { result.now ≡ face_rows solid }

@@ -29,10 +29,12 @@ fn main(rt: HostRuntime) -> io::Result<()> {
 }
 
 // Reads until the buffer is full or the input ends: how many bytes stand at the front of the buffer.
+// The sample stands on its own, with a reading loop of its own.
 fn read_full(input: &mut impl Read, buffer: &mut [u8]) -> io::Result<usize>
     ensures { IfOk result (λ n. n ≤ length buffer.new) }
 {
     let mut at = 0;
+    // No `for`, since each read says how far it came, and no `read_exact`, since the input may end anywhere.
     while at < buffer.len() {
         let n = input.read(&mut buffer[at..])?;
         if n == 0 {

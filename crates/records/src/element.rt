@@ -7,7 +7,7 @@ use crate::{corners_of, kind_of, solid_of};
 use solids::Solid;
 
 // An element: its solid, and the vertex numbers of its corners in the order of their places.
-#[derive(Clone, Copy, Debug)]
+#[derive(Clone, Copy, Debug, PartialEq, Eq)]
 pub struct Element<'a> {
     pub solid: Solid,
     pub corners: &'a [u16],

@@ -15,6 +15,7 @@ mod element;
 pub use element::Element;
 
 // The solid of a kind; any other number is refused before its solid is asked for.
+// No `TryFrom`: the page defines `solid_of` for every number, so that it cannot fail.
 #[tactic(auto, unfolding(crate::specs::Record::solid_of))]
 pub fn solid_of(kind: u16) -> Solid
     ensures { result ≡ solid_of kind }
@@ -104,14 +105,14 @@ pub fn record_at(table: &[u16], k: usize) -> &[u16]
     )
 }
 
-// The record of a tetrahedron with these corners.
+// The record of a tetrahedron with these corners; its kind is the page's number, as in each record.
 pub fn tetrahedron_record(a: Vertex, b: Vertex, c: Vertex, d: Vertex) -> [u16; ELEMENT_WIDTH]
     ensures { result ≡ as_record (tet a.0 b.0 c.0 d.0) }
 {
     [4, a.0, b.0, c.0, d.0, 0, 0, 0, 0]
 }
 
-// A kind is 4, 5, 6 or 8.
+// A kind is 4, 5, 6 or 8; no enum, since a kind is the page's number in a record that is only lent.
 #[tactic(auto, unfolding(crate::specs::Record::is_kind))]
 fn is_kind(kind: u16) -> bool
     ensures { result ≡ is_kind kind }
@@ -144,12 +145,7 @@ pub fn is_among(v: Vertex, list: &[u16]) -> bool
 fn is_distinct(numbers: &[u16]) -> bool
     ensures { result ≡ distinct numbers.now }
 {
-    for i in 0..numbers.len() {
-        if numbers[i + 1..].contains(&numbers[i]) {
-            return false;
-        }
-    }
-    true
+    (0..numbers.len()).all(|i| !numbers[i + 1..].contains(&numbers[i]))
 }
 
 // The first fault of a record whose vertex numbers may go up to a limit: KIND, VERTEX, SPARE, REPEAT, in this order.

@@ -21,6 +21,7 @@ pub struct SignCounts {
 }
 
 // Counts the signs of a cut: judges the table, then the vertex table, ROOM and RANGE.
+// The first three parameters are the table as C hands it on.
 pub fn sign_report(
     vertex_count: usize,
     element_count: usize,
@@ -29,6 +30,7 @@ pub fn sign_report(
 ) -> Result<SignCounts, Refusal>
     ensures { SignDone vertex_count element_count elements.now vertices.now result }
 {
+    // What `cut_blocks` leaves, in arrays as long as the limits allow: memory is fixed.
     let mut keys = [0; TETRAHEDRON_LIMIT];
     let mut sizes = [0; ELEMENT_LIMIT];
     let count = cut_blocks(vertex_count, element_count, elements, &mut keys, &mut sizes)?;

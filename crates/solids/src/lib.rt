@@ -2,7 +2,7 @@
 // proofs/Theorems.antt; the tables that code reads stand in the room places.
 #![tactic(auto)]
 
-// A local corner number, from 1; 0 is none.
+// A local corner number, from 1; 0 is none, as the page has it: the definition `at` gives 0 there.
 #[derive(Clone, Copy, Debug, PartialEq, Eq, PartialOrd, Ord)]
 pub struct Place(pub u8);
 

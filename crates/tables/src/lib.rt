@@ -10,6 +10,7 @@ use limits::{ELEMENT_LIMIT, VERTEX_LIMIT};
 use records::{judge_record, record_at, record_count};
 
 // Judges the records of a table: MANY for the counts, ROOM for its length, then each record in order.
+// Its three parameters are those that C hands on.
 #[tactic(auto, using(crate::proofs::JudgedRecordLaws::judging))]
 pub fn judge_records(
     vertex_count: usize,
@@ -25,9 +26,8 @@ pub fn judge_records(
         return Err(Refusal::at(Fault::Room, 0));
     }
     for k in 0..element_count {
-        if let Err(fault) = judge_record(record_at(elements, k), vertex_count) {
-            return Err(Refusal::at(fault, k + 1));
-        }
+        let judged = judge_record(record_at(elements, k), vertex_count);
+        judged.map_err(|fault| Refusal::at(fault, k + 1))?;
     }
     Ok(())
 }

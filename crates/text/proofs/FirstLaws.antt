@@ -4,13 +4,14 @@ use Prim.Native.Nat.{ℕ, suc, ◌+◌, ◌-◌, ◌≤◌, ◌<◌}
 use native.Mathlib.Nat.{sub-zero}
 use native.Mathlib.Numerals.{add-one}
 use native.Mathlib.Omega.{arith}
-use mathlib.Core.Path.{◌≡◌, sym, ap, ◌∙◌}
+use mathlib.Core.Path.{◌≡◌, refl, sym, ap, ◌∙◌}
 use mathlib.Core.List.{List}
-use lib.ListN.{length, set}
+use lib.ListN.{length, get_or, set}
 use lib.Seq.{sets}
 use Rattle.limits.specs.Limits.{space}
-use Rattle.laws.specs.Pieces.{split}
-use Rattle.format.specs.Line.{first_of}
+use Rattle.laws.specs.Pieces.{Pieces, rest, piece, split}
+use Rattle.format.specs.Number.{value_of}
+use Rattle.format.specs.Line.{first_of, numbers_of}
 use Rattle.format.proofs.FieldLaws.{length-first, first-none, first_then, sets-whole}
 use Rattle.text.specs.ReadingLoops.{FirstField}
 
@@ -34,3 +35,15 @@ module _ {A : Type 0} (f : List ℕ → A) (n : ℕ) (s : List ℕ) where
   said_all {i = i} {t = t} k h =
       let z : n - i ≡ 0 = omega arith in
       sym (k.same ∙ rw (first-none f (n - i) (split space t) z))
+
+-- the first two numbers are the first two of the first eight
+pub first_number : (p : Pieces) → get_or (first_of value_of 2 p) 0 0 ≡ get_or (numbers_of p) 0 0
+unfolding first_of
+first_number (rest l) = refl
+first_number (piece l p) = refl
+
+pub second_number : (p : Pieces) → get_or (first_of value_of 2 p) 1 0 ≡ get_or (numbers_of p) 1 0
+unfolding first_of
+second_number (rest l) = refl
+second_number (piece l (rest m)) = refl
+second_number (piece l (piece m p)) = refl

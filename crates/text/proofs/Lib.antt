@@ -5,4 +5,5 @@ pub mod QuickNumbers
 pub mod QuickFields
 pub mod QuickLines
 pub mod ReadLaws
+pub mod StoreLaws
 pub mod Theorems

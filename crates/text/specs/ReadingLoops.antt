@@ -1,5 +1,5 @@
 -- What private functions say beside the page's definitions: sizes and shapes that only their callers and loops want.
-use Rattle.std.specs.Prelude.{ℕ, ◌+◌, ◌*◌, ◌≤◌, ◌<◌, ◌≡◌, true, cond, ◌⊎◌, List, [], ◌++◌, length, take, drop, ℤ, Ok, Result, Err, IfOk}
+use Rattle.std.specs.Prelude.{ℕ, ◌+◌, ◌*◌, ◌≤◌, ◌<◌, ◌≡◌, true, false, cond, ◌⊎◌, List, [], ◌++◌, length, take, drop, ℤ, Ok, Result, Err, IfOk}
 use Rattle.std.proofs.lemmas.List.Edits.{sets}
 use Rattle.limits.specs.Limits.{line_end, space, file_limit, vertex_limit, element_limit, vertex_width, element_width}
 use Rattle.laws.specs.Pieces.{rest, piece, split}
@@ -7,7 +7,7 @@ use Rattle.faults.specs.Refusals.{refused, refuse}
 use Rattle.faults.specs.declared.Fault.{Fault}
 use Rattle.faults.specs.declared.Fault.TheVariants as fault
 use Rattle.faults.specs.declared.Refusal.{Refusal}
-use Rattle.format.specs.Line.{mark_of, role_of, line_verdict}
+use Rattle.format.specs.Line.{mark_of, role_of, too_many, line_verdict}
 use Rattle.format.specs.File.{start, lines_of, file_from, file_verdict}
 use Rattle.format.specs.Records.{vertex_records, element_records, records_from}
 use Rattle.format.specs.declared.ReaderState.{ReaderState}
@@ -41,6 +41,11 @@ pub record Ready (t : List ℕ) (state : ReaderState) (vertices : List ℤ) (ele
   pub some : 0 < length t
   pub few_vertices : state.vertices ≤ vertex_limit
   pub few_elements : state.elements ≤ element_limit
+  pub own : Own vertices elements
+
+-- tables with room for the record of the line after those of the lines before it
+pub record RoomForLine (l : List ℕ) (state : ReaderState) (vertices : List ℤ) (elements : List ℕ) : Type 0 where
+  pub allowed : too_many state (role_of (mark_of l)) ≡ false
   pub own : Own vertices elements
 
 -- the records of a line stored after those of the lines before it

@@ -3,13 +3,13 @@ ghost use Rattle.std.specs.Fn.{FnReturnsAt};
 ghost use Rattle.std.specs.Prelude.{◌≡◌, List, ℕ};
 ghost use Rattle.limits.specs.Limits.{space};
 ghost use Rattle.laws.specs.Pieces.{split};
-ghost use Rattle.format.specs.Number.{coordinate_of, number_of};
-ghost use Rattle.format.specs.Line.{are_fields, bad_shape, first_of, numbers_of, judge_coordinate, judge_count, judge_vertex, field_verdict, fields_verdict};
+ghost use Rattle.format.specs.Number.{coordinate_of, number_of, value_of};
+ghost use Rattle.format.specs.Line.{are_fields, bad_shape, first_of, judge_coordinate, judge_count, judge_vertex, field_verdict, fields_verdict};
 ghost use Rattle.text.specs.ReadingLoops.{FirstField, Says};
 
 use faults::Fault;
 use format::{ReaderState, Role};
-use limits::{CORNER_WIDTH, FIELDS_AT, MARK_WIDTH, SPACE};
+use limits::{FIELDS_AT, MARK_WIDTH, SPACE};
 use numbers::scan::split_once;
 use numbers::{coordinate, number, value};
 
@@ -44,7 +44,7 @@ pub fn first_field(s: &[u8]) -> (&[u8], &[u8])
     split_once(s, SPACE).unwrap_or((s, &[]))
 }
 
-// The first N fields, each by what `value` says of it; where there is none, what it says of no bytes.
+// The first N fields, each by what `value` says of it; where there is none, what it says of no bytes. No `split`, as at `are_fields`.
 pub fn first_of<T: Copy, F: Fn(&[u8]) -> T, const N: usize>(s: &[u8], value: F) -> [T; N]
     requires { F.IsAlwaysCallable value }
     ensures { (f : List ℕ → T) → Says (FnReturnsAt F.Fn value) f → result ≡ first_of f N (split space s.now) }
@@ -59,9 +59,9 @@ pub fn first_of<T: Copy, F: Fn(&[u8]) -> T, const N: usize>(s: &[u8], value: F) 
     out
 }
 
-// The numbers of the first eight fields, 0 where there is none.
-pub fn numbers(s: &[u8]) -> [u16; CORNER_WIDTH]
-    ensures { result ≡ numbers_of (split space s.now) }
+// The numbers of the first N fields, 0 where there is none, as the page's definition has it.
+pub fn numbers<const N: usize>(s: &[u8]) -> [u16; N]
+    ensures { result ≡ first_of value_of N (split space s.now) }
 {
     first_of(s, value)
 }
@@ -93,7 +93,7 @@ fn judge_vertex(t: &[u8], count: usize) -> Result<(), Fault>
     }
 }
 
-// What is wrong with a field of a line of that role.
+// What is wrong with a field of a line of that role, which is asked at each field as the definition `field_verdict` has it.
 #[tactic(auto, unfolding(format::specs::Line::field_verdict))]
 fn judge_field(t: &[u8], role: Role, state: ReaderState) -> Result<(), Fault>
     ensures { result ≡ field_verdict state role t.now }
@@ -106,7 +106,7 @@ fn judge_field(t: &[u8], role: Role, state: ReaderState) -> Result<(), Fault>
     }
 }
 
-// What is wrong with the first wrong field of s.
+// What is wrong with the first wrong field of s. No `split`, as at `are_fields`.
 pub fn judge_fields(s: &[u8], role: Role, state: ReaderState) -> Result<(), Fault>
     ensures { result ≡ fields_verdict state role (split space s.now) }
 {

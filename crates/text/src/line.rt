@@ -36,7 +36,7 @@ pub fn too_many(state: ReaderState, role: Role) -> bool
     }
 }
 
-// Whether the lent table is too short for the line's record.
+// Whether the lent table is too short for the line's record. Rooms and state stay two parameters: the rooms stay for a file, the state goes on with each line.
 #[tactic(auto, unfolding(format::specs::Line::no_room))]
 pub fn no_room(rooms: Rooms, state: ReaderState, role: Role) -> bool
     requires { Few state }
@@ -50,14 +50,14 @@ pub fn no_room(rooms: Rooms, state: ReaderState, role: Role) -> bool
 }
 
 // Whether the line is EN with counts other than the file's.
-#[tactic(auto, unfolding(format::specs::Line::bad_counts))]
+#[tactic(auto, unfolding(format::specs::Line::bad_counts), using(crate::proofs::FirstLaws::first_number, crate::proofs::FirstLaws::second_number))]
 fn bad_counts(state: ReaderState, role: Role, t: &[u8]) -> bool
     ensures { result ≡ bad_counts state role (split space t.now) }
 {
     match role {
         Role::EndLine => {
-            let n = numbers(t);
-            usize::from(n[0]) != state.vertices || usize::from(n[1]) != state.elements
+            let [vertices, elements]: [u16; 2] = numbers(t);
+            usize::from(vertices) != state.vertices || usize::from(elements) != state.elements
         }
         _ => false,
     }

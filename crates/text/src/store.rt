@@ -1,29 +1,26 @@
 // The records of the lines, kept in two tables of the reader's own, each in the state before its line.
-ghost use Rattle.std.specs.Prelude.{◌≡◌, ◌+◌, ◌*◌, ◌^◌, ◌<◌, length};
+ghost use Rattle.std.specs.Prelude.{◌≡◌, ◌+◌, ◌≤◌, length};
 ghost use Rattle.std.proofs.lemmas.List.Edits.{sets};
 ghost use Rattle.limits.specs.Limits.{space, vertex_width, element_width};
 ghost use Rattle.laws.specs.Pieces.{split};
 ghost use Rattle.format.specs.Records.{vertex_record, element_record, vertex_records, element_records};
 ghost use Rattle.format.specs.declared.ReaderState.{ReaderState};
-ghost use Rattle.text.specs.ReadingLoops.{Few, StoredLine};
+ghost use Rattle.text.specs.ReadingLoops.{Few, RoomForLine, StoredLine};
 
 use crate::field::{first_of, numbers};
 use crate::mark::{mark_of, role_of, tip_first, wants};
 use format::{Mark, ReaderState, Role};
-use limits::{ELEMENT_WIDTH, FIELDS_AT, VERTEX_WIDTH};
+use limits::{CORNER_WIDTH, ELEMENT_WIDTH, FIELDS_AT, VERTEX_WIDTH};
 use numbers::scan::from;
 use numbers::thousandths;
 
-// The values of a record at place `at` of a table, as far as the table has places; by index, since the contract of `get_mut` says nothing of what is written.
+// The values of a record at place `at` of a table with room for them.
+#[tactic(auto, using(crate::proofs::StoreLaws::put_there))]
 fn put<T: Copy>(values: &[T], at: usize, table: &mut [T])
-    requires { at + length values.now < 2 ^ 64 }
+    requires { at + length values.now ≤ length table.old }
     ensures { table.new ≡ sets table.old at values.now }
 {
-    for (k, value) in values.iter().enumerate() {
-        if at + k < table.len() {
-            table[at + k] = *value;
-        }
-    }
+    table[at..at + values.len()].copy_from_slice(values);
 }
 
 // The record of a VX line with the fields s.
@@ -40,7 +37,7 @@ fn element_record(mark: Mark, s: &[u8]) -> [u16; ELEMENT_WIDTH]
     ensures { (state : ReaderState) → result ≡ element_record state mark (split space s.now) }
 {
     let kind = wants(mark);
-    let [a, b, c, d, e, f, g, h] = numbers(s);
+    let [a, b, c, d, e, f, g, h]: [u16; CORNER_WIDTH] = numbers(s);
     if tip_first(mark) {
         [kind, b, c, d, e, a, f, g, h]
     } else {
@@ -49,9 +46,10 @@ fn element_record(mark: Mark, s: &[u8]) -> [u16; ELEMENT_WIDTH]
 }
 
 // The record of a line, after those of the lines before it.
-#[tactic(auto, unfolding(format::specs::Records::vertex_records, format::specs::Records::element_records, format::specs::Line::fields_of))]
+#[tactic(auto, unfolding(format::specs::Records::vertex_records, format::specs::Records::element_records, format::specs::Line::fields_of), using(crate::proofs::StoreLaws::vertex_room, crate::proofs::StoreLaws::element_room))]
 pub fn keep_line(l: &[u8], state: ReaderState, vertices: &mut [i32], elements: &mut [u16])
-    requires { Few state }
+    requires few { Few state }
+    requires room { RoomForLine l.now state vertices.old elements.old }
     ensures { StoredLine l.now state vertices.old elements.old vertices.new elements.new }
 {
     let mark = mark_of(l);

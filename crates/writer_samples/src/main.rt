@@ -12,6 +12,7 @@ fn print_part(rt: &impl Print, buffer: &[u8], n: usize) -> io::Result<()> {
     }
 }
 
+// By `write_refusal`, which is tested here, and not by `Display`.
 fn print_refusal(rt: &impl Print, refusal: Refusal) -> io::Result<()> {
     let mut buffer = [0u8; 48];
     match write_refusal(refusal, &mut buffer) {

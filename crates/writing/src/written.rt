@@ -41,7 +41,7 @@ fn put_below_ten(line: &mut [u8], at: usize, k: usize) -> usize
     push(line, at, ZERO + k as u8)
 }
 
-// A number of at most two digits.
+// A number of at most two digits. No formatter of the library: this writes into lent memory, without a buffer of its own, and this quick path is without recursion.
 fn put_below_hundred(line: &mut [u8], at: usize, k: usize) -> usize
     requires { k < 100 }
     ensures { Put line.old at (decimal k) line.new result }
@@ -53,7 +53,7 @@ fn put_below_hundred(line: &mut [u8], at: usize, k: usize) -> usize
     push(line, next, digit(k))
 }
 
-// A number of any length.
+// A number of any length, no formatter of the library, as at `put_below_hundred`.
 fn put_digits(line: &mut [u8], at: usize, k: usize) -> usize
     ensures { Put line.old at (decimal k) line.new result }
 {
@@ -151,7 +151,7 @@ fn put_mark(line: &mut [u8], at: usize, mark: Mark) -> usize
     }
 }
 
-// The mark of a kind, never PZ.
+// The mark of a kind, never PZ; kinds are the page's numbers.
 #[tactic(auto, unfolding(crate::specs::Written::mark_of_kind))]
 fn mark_of_kind(kind: u16) -> Mark
     ensures { result ≡ mark_of_kind kind }
@@ -198,7 +198,7 @@ pub fn end_line(line: &mut [u8], vertices: usize, elements: usize) -> usize
     push(line, second, LINE_END)
 }
 
-// NO number place second, with its byte 10.
+// NO number place second, with its byte 10. `Display` of a refusal says the same for people; this line is promised byte for byte.
 pub fn refusal_line(line: &mut [u8], refusal: Refusal) -> usize
     ensures { Put line.old 0 (refusal_line refusal) line.new result }
 {

@@ -25,11 +25,12 @@ module _ (v n : ℕ) (t : List ℕ) where
   pairing : Ok tt ≡ ruled (records_judged v n t) → {s : Result (Unit {0}) Refusal} → s ≡ ruled (pairs_judged t n (first_elements t n)) → JudgeDone v n t s
   pairing e {s} f = judge_done v n t s (pairs_judging v n t (passing e) s f)
 
-pub judge_pairs-requires : goal.judge_pairs-requires
-judge_pairs-requires c =
+pub invariant_of-judge_pairs : goal.invariant_of-judge_pairs
+invariant_of-judge_pairs c =
     let a = c.args in
-    recorded_numbered a.vertex_count a.element_count a.elements.now
-    (passing a.vertex_count a.element_count a.elements.now c.in_ok-judge_records.ensures)
+    record {
+      numbered = recorded_numbered a.vertex_count a.element_count a.elements.now (passing a.vertex_count a.element_count a.elements.now c.in_ok-judge_records.ensures);
+    }
 
 pub returns-in_err-judge_records : goal.returns-in_err-judge_records
 returns-in_err-judge_records c =

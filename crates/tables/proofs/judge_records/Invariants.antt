@@ -4,4 +4,4 @@ use Rattle.tables.specs.JudgedRecords.{bad_record}
 use Rattle.tables.proofs.judge_records.Given as goal
 
 abbrev pub invariant-loop-k : goal.invariant-loop-k
-invariant-loop-k l = bad_record l.vertex_count l.elements l.k ≡ 0
+invariant-loop-k l = bad_record l.vertex_count l.elements l.k-counter ≡ 0

@@ -1,19 +1,20 @@
--- The first vertex that differs from u is the other one, and where none does it is u. Assumes nothing.
-use Rattle.std.proofs.Common.{◌∙◌, sym, ap, ℕ, rules, tests, not, eqb}
+-- The first number that differs from u is the vertex that is given. Assumes nothing.
+use Rattle.std.proofs.Common.{◌≡◌, ◌∙◌, ap, ℕ, Bor, rules, tests, not, eqb}
+use Rattle.std.specs.Prelude.{Option, Some, None, MatchOption, IsSomeAnd}
 use Rattle.std.specs.Option.{option_map}
 use Rattle.std.proofs.lemmas.Iterator.{YieldsList-from_slice}
 use Rattle.std.proofs.lemmas.Iterator.Search.{find_from_yields_List}
-use Rattle.fit.proofs.TwoEndsLaws.{other_found, other-missing}
+use Rattle.solids.specs.declared.Vertex.{Vertex}
 use Rattle.fit.proofs.sets.other_than.Goals as goal
 
-pub returns-in-Some : goal.returns-in-Some
-returns-in-Some c =
-    let vs = c.args.vertices.now in
-    other_found c.args.u.0 c.in-Some.field-0.now vs
-    (sym (ap (option_map (λ y. y.now)) c.in-Some.is) ∙ find_from_yields_List (λ (w : ℕ). not (eqb c.args.u.0 w)) _ _ c.find.result c.find.ensures.ran (YieldsList-from_slice vs cc) (λ x b q k. search (rules, tests)))
+-- the number that is found, as a vertex
+as_vertex : (r : Option (Bor ℕ)) (s : Option Vertex) {P : Bor ℕ → Vertex → Type 0} → MatchOption r (s ≡ None) (λ x. IsSomeAnd s (P x))
+    → ((x : Bor ℕ) (y : Vertex) → P x y → y.0 ≡ x.now) → option_map (λ v. v.0) s ≡ option_map (λ x. x.now) r
+as_vertex None s h k = ap (option_map (λ v. v.0)) h
+as_vertex (Some x) (Some y) h k = ap Some (k x y h)
+as_vertex (Some x) None h k = absurd h
 
-pub returns-in-None : goal.returns-in-None
-returns-in-None c =
-    let vs = c.args.vertices.now in
-    other-missing c.args.u.0 vs
-    (sym (ap (option_map (λ y. y.now)) c.in-None.is) ∙ find_from_yields_List (λ (w : ℕ). not (eqb c.args.u.0 w)) _ _ c.find.result c.find.ensures.ran (YieldsList-from_slice vs cc) (λ x b q k. search (rules, tests)))
+pub returns : goal.returns
+returns c =
+    as_vertex c.find.result c.map.result c.map.ensures.cases (λ x y p. search rules)
+    ∙ find_from_yields_List (λ (w : ℕ). not (eqb c.args.u.0 w)) _ _ c.find.result c.find.ensures.ran (YieldsList-from_slice c.args.vertices.now cc) (λ x b q k. search (rules, tests))

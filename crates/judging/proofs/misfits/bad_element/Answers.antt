@@ -22,13 +22,13 @@ loop-j-init c = record { failed = failed_start _ _; chains = c.new-chains.ensure
 pub returns-then-not-fits_next : goal.returns-then-not-fits_next
 unfolding bad_element
 returns-then-not-fits_next c =
-    let t = c.args.table.now in
+    let t = c.args.table.elements.now in
     let i = c.loop-j.invariant in
     sym (add-one c.loop-j.j) ∙ failed_here (bad t) i.failed c.loop-j-test.true (found i c.fits_next.ensures c.if-not-fits_next.true)
 
 pub loop-j-preserved : goal.loop-j-preserved
 loop-j-preserved c =
-    let t = c.args.table.now in
+    let t = c.args.table.elements.now in
     let i = c.loop-j.invariant in
     record {
       failed = failed_next (bad t) i.failed c.loop-j-test.true (passed i c.fits_next.ensures c.if-not-fits_next.false);
@@ -37,4 +37,4 @@ loop-j-preserved c =
 
 pub returns : goal.returns
 unfolding bad_element
-returns c = failed_end (bad c.args.table.now) c.loop-j.invariant.failed c.loop-j-test.false
+returns c = failed_end (bad c.args.table.elements.now) c.loop-j.invariant.failed c.loop-j-test.false

@@ -11,7 +11,7 @@ bad t j = ltb 0 (misfit t j)
 
 pub record Going (t : List ℕ) (n j : ℕ) (s : Chained) : Type 0 where
   pub failed : Failed (bad t) n j
-  pub chains : s ≡ record { table = t; filed = j }
+  pub chains : s ≡ record { table = t; count = n; filed = j }
 
 abbrev pub invariant-loop-j : goal.invariant-loop-j
-invariant-loop-j l = Going l.table l.n l.j l.chains
+invariant-loop-j l = Going l.table.elements.now l.table.count l.j l.chains

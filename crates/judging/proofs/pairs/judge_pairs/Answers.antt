@@ -10,6 +10,6 @@ overflow_add-result-in-Some c = omega (arith, c.in-Some.ensures.early, c.in-Some
 
 pub returns-in-Some : goal.returns-in-Some
 returns-in-Some c =
-    let t = c.args.elements.now in
-    let n = c.args.element_count in
+    let t = c.args.table.elements.now in
+    let n = c.args.table.count in
     sym (ap ruled (bad_pair t n (first_elements t n) c.in-Some.j c.in-Some.i c.in-Some.ensures.element c.in-Some.ensures.lowest))

@@ -1,7 +1,7 @@
 -- `text::file::judged_line` judges a line test by test, and keeps its record. Assumes nothing.
-use Rattle.std.proofs.Common.{sym, ◌∙◌}
+use Rattle.std.proofs.Common.{rules, sym, ◌∙◌, true}
 use Rattle.std.proofs.lemmas.Result.{err_from_is_err_and}
-use Rattle.format.proofs.FileLaws.{file_open, file-no}
+use Rattle.format.proofs.FileLaws.{line_taken, file_open, file-no}
 use Rattle.text.proofs.KeptLaws.{line_kept}
 use Rattle.text.proofs.file.judged_line.Goals as goal
 
@@ -12,6 +12,11 @@ pub returns-in_err-next : goal.returns-in_err-next
 returns-in_err-next c =
     let p = err_from_is_err_and c.from_residual.result c.from_residual.ensures.1 in
     rw (p.1, p.2) (λ n. file-no _ _ n _ _ _ _ c.in-Some.ensures.parts (sym c.judge_line.ensures ∙ c.in_err-next.was))
+
+pub keep_line-requires : goal.keep_line-requires
+keep_line-requires c =
+    let taken = line_taken _ _ _ _ true (sym c.judge_line.ensures ∙ c.in_ok-next.was) in
+    record { few = search rules; room = record { allowed = taken.few; own = c.requires.own } }
 
 pub returns : goal.returns
 returns c =

@@ -42,7 +42,7 @@ loop-x-init c =
     let s = c.self.inside in
     let v = c.args.vertex.0 in
     let w = rw (← c.self.view_is) at c.requires in (
-      on_start s.table.now s.filed v c.args.marks.now c.from-x.result ((rw c.from.ensures at c.from-x.ensures) ∙ c.self.invariant.first v w.low),
+      on_start s.table.elements.now s.filed v c.args.marks.now c.from-x.result ((rw c.from.ensures at c.from-x.ensures) ∙ c.self.invariant.first v w.low),
       w.seen,
     )
 
@@ -68,7 +68,7 @@ loop-x-preserved c =
     let h = c.loop-x-test.true in
     let m = c.meet.ensures in
     let y = c.from-x-in-loop-x in (
-      on_next s.table.now s.filed c.args.vertex.0 c.args.marks.now c.loop-x.x y.result i h m c.if-not-meet.false (next_place i h c.self.invariant y.ensures),
+      on_next s.table.elements.now s.filed c.args.vertex.0 c.args.marks.now c.loop-x.x y.result i h m c.if-not-meet.false (next_place i h c.self.invariant y.ensures),
       m.seen,
     )
 

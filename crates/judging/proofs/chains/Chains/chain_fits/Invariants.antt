@@ -5,7 +5,7 @@ use Rattle.judging.proofs.ChainLaws.{On}
 use Rattle.judging.proofs.chains.Chains.chain_fits.Given as goal
 
 abbrev pub invariant-loop-x : goal.invariant-loop-x
-invariant-loop-x l = On l.self-inside.table.now l.self-inside.filed l.fn.vertex.0 l.fn.marks l.marks l.x × Seen l.self-inside.table.now l.self-inside.filed l.marks
+invariant-loop-x l = On l.self-inside.table.elements.now l.self-inside.filed l.fn.vertex.0 l.fn.marks l.marks l.x × Seen l.self-inside.table.elements.now l.self-inside.filed l.marks
 
 abbrev pub decreases-loop-x : goal.decreases-loop-x
 decreases-loop-x l = l.x

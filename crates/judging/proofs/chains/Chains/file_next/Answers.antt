@@ -4,7 +4,7 @@ use Rattle.std.proofs.Common.{◌≡◌, refl, ap, subst, ℕ, ◌+◌, ◌*◌,
 use Rattle.std.proofs.Math.ListN.{set}
 use Rattle.limits.specs.Limits.{element_width}
 use Rattle.judging.specs.Chained.{Chained, Numbered, Filed}
-use Rattle.judging.proofs.ChainLaws.{filed-kind, filed_more}
+use Rattle.judging.proofs.ChainLaws.{filed-kind, filed_more, numbered-next}
 use Rattle.judging.proofs.chains.Chains.file_next.Goals as goal
 
 -- x is a place of record j, and its vertex number is low
@@ -24,46 +24,47 @@ filed-all : (t : List ℕ) (j x : ℕ) {heads links : List ℕ} → element_widt
 filed-all t j x {heads} {links} h l w = let e : x ≡ element_width * (j + 1) = omega arith in subst (λ (m : ℕ). Filed t m heads links) e w
 
 pub loop-x-init : goal.loop-x-init
-loop-x-init c = record { table = refl; filed = refl; places = filed-kind c.self.inside.table.now c.self.inside.filed c.self.invariant }
+loop-x-init c = record { table = refl; count = refl; filed = refl; places = filed-kind c.self.inside.table.elements.now c.self.inside.filed c.self.invariant }
 
 pub bounds-self-inside-x : goal.bounds-self-inside-x
 bounds-self-inside-x c =
-    let n = rw (← c.self.view_is) at c.requires in
+    let n = numbered-next (rw (← c.self.view_is) at c.requires) c.self.inside.table.numbered in
     rw c.loop-x.invariant.table (omega (arith, n.table.long))
 
 pub bounds-self-inside-v : goal.bounds-self-inside-v
 bounds-self-inside-v c =
-    let n = rw (← c.self.view_is) at c.requires in
-    let low = low-here c.self.inside.table.now c.self.inside.filed c.loop-x.x (omega arith) c.loop-x-test.true n (rw c.loop-x.invariant.table at c.from-v.ensures) in
+    let n = numbered-next (rw (← c.self.view_is) at c.requires) c.self.inside.table.numbered in
+    let low = low-here c.self.inside.table.elements.now c.self.inside.filed c.loop-x.x (omega arith) c.loop-x-test.true n (rw c.loop-x.invariant.table at c.from-v.ensures) in
     omega arith
 
 pub bounds-self-inside-v-in-loop-x : goal.bounds-self-inside-v-in-loop-x
 bounds-self-inside-v-in-loop-x c =
-    let n = rw (← c.self.view_is) at c.requires in
-    let low = low-here c.self.inside.table.now c.self.inside.filed c.loop-x.x (omega arith) c.loop-x-test.true n (rw c.loop-x.invariant.table at c.from-v.ensures) in
+    let n = numbered-next (rw (← c.self.view_is) at c.requires) c.self.inside.table.numbered in
+    let low = low-here c.self.inside.table.elements.now c.self.inside.filed c.loop-x.x (omega arith) c.loop-x-test.true n (rw c.loop-x.invariant.table at c.from-v.ensures) in
     omega arith
 
 pub loop-x-preserved : goal.loop-x-preserved
 loop-x-preserved c =
     let i = c.loop-x.invariant in
-    let n = rw (← c.self.view_is) at c.requires in
+    let n = numbered-next (rw (← c.self.view_is) at c.requires) c.self.inside.table.numbered in
     record {
       table = i.table;
+      count = i.count;
       filed = i.filed;
-      places = filed-here c.self.inside.table.now c.self.inside.filed c.loop-x.x (omega arith) c.loop-x-test.true n (rw i.table at c.from-v.ensures) i.places;
+      places = filed-here c.self.inside.table.elements.now c.self.inside.filed c.loop-x.x (omega arith) c.loop-x-test.true n (rw i.table at c.from-v.ensures) i.places;
     }
 
 pub overflow_add-self : goal.overflow_add-self
 overflow_add-self c =
-    let n = rw (← c.self.view_is) at c.requires in
+    let n = numbered-next (rw (← c.self.view_is) at c.requires) c.self.inside.table.numbered in
     rw c.loop-x.invariant.filed (omega (arith, n.table.few))
 
 pub invariant_of-self : goal.invariant_of-self
 invariant_of-self c =
     let i = c.loop-x.invariant in
-    rw (i.table, i.filed) (filed-all c.self.inside.table.now c.self.inside.filed c.loop-x.x c.loop-x-test.false (c.loop-x.auto.x-end (omega arith)) i.places)
+    rw (i.table, i.filed) (filed-all c.self.inside.table.elements.now c.self.inside.filed c.loop-x.x c.loop-x-test.false (c.loop-x.auto.x-end (omega arith)) i.places)
 
 pub returns : goal.returns
 returns c =
     let i = c.loop-x.invariant in
-    rw (i.table, i.filed) (ap (λ (s : Chained). record s { filed = s.filed + 1 }) c.self.view_is)
+    rw (i.table, i.count, i.filed) (ap (λ (s : Chained). record s { filed = s.filed + 1 }) c.self.view_is)

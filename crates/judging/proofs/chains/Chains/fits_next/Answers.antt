@@ -1,15 +1,15 @@
 -- Each corner of the next element meets the filed elements that hold its vertex, and tests those that were met; where none of them is a misfit, none is.
 -- Assumes nothing.
-use Rattle.std.proofs.Common.{◌≡◌, refl, ◌∙◌, ap, ℕ, ◌+◌, ◌*◌, ◌/◌, ◌<◌, ◌≤◌, Bool, true, false, not, eqb, ltb, List, length, get_or, arith}
+use Rattle.std.proofs.Common.{◌≡◌, refl, ◌∙◌, ap, subst, ℕ, ◌+◌, ◌*◌, ◌/◌, ◌<◌, ◌≤◌, Bool, true, false, not, eqb, ltb, List, length, get_or, arith}
 use borrow.Author.Tests.{eqb-true, eqb-false}
 use Rattle.limits.specs.Limits.{element_width}
 use Rattle.records.specs.Record.{used_of, record_at}
 use Rattle.records.specs.WholeRecords.{WholeTable}
 use Rattle.judging.specs.declared.chains.Mark.{Mark}
 use Rattle.judging.specs.Judge.{pair_fits, misfit}
-use Rattle.judging.specs.Chained.{Chained, holds}
+use Rattle.judging.specs.Chained.{Chained, Numbered, holds}
 use Rattle.judging.specs.Marks.{met, Walked}
-use Rattle.judging.proofs.ChainLaws.{corner_of, corner-low, seen_start, misfit-none}
+use Rattle.judging.proofs.ChainLaws.{corner_of, corner-low, numbered-next, seen_start, misfit-none}
 use Rattle.judging.proofs.chains.Chains.fits_next.Invariants.{Passed}
 use Rattle.judging.proofs.chains.Chains.fits_next.Goals as goal
 
@@ -39,6 +39,10 @@ module _ {s u : Chained} {r items : List ℕ} (e : s ≡ u) (f : r ≡ record_at
   its-corners : items ≡ used_of (record_at u.table u.filed)
   its-corners = g ∙ ap used_of (f ∙ ap (λ (v : Chained). record_at v.table v.filed) e)
 
+-- the next element's vertex numbers are low
+numbered_of : {s u : Chained} → s ≡ u → u.filed < u.count → Numbered s.table s.count → Numbered u.table (u.filed + 1)
+numbered_of e l h = numbered-next l (subst (λ (v : Chained). Numbered v.table v.count) e h)
+
 pub loop-vertex-init : goal.loop-vertex-init
 loop-vertex-init c = record {
   seen = seen_start c.args.self.now.table c.args.self.now.filed;
@@ -51,9 +55,10 @@ chain_fits-requires c =
     let s = c.args.self.now in
     let k = c.loop-vertex.vertex-index in
     let e = its-corners c.self.view_is c.record_at.ensures c.corners_of-vertex-items.ensures in
+    let n = numbered_of c.self.view_is c.requires c.self.inside.table.numbered in
     record {
-      table = c.requires.table;
-      low = rw e (corner-low s.table s.filed k c.requires (rw e at c.loop-vertex-test.true));
+      table = n.table;
+      low = rw e (corner-low s.table s.filed k n (rw e at c.loop-vertex-test.true));
       seen = c.loop-vertex.invariant.seen;
     }
 
@@ -66,4 +71,5 @@ loop-vertex-preserved c =
 pub returns : goal.returns
 returns c =
     let e = its-corners c.self.view_is c.record_at.ensures c.corners_of-vertex-items.ensures in
-    none_left c.loop-vertex.invariant c.requires.table (rw e at c.loop-vertex-test.false)
+    let n = numbered_of c.self.view_is c.requires c.self.inside.table.numbered in
+    none_left c.loop-vertex.invariant n.table (rw e at c.loop-vertex-test.false)
