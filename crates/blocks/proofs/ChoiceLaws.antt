@@ -9,7 +9,7 @@ use Rattle.blocks.specs.BlockLoops.{choice, with_bit}
 
 module _ (low high : ℕ) where
   -- at most one binary digit more
-  bit_most : (F : Face ℕ) (n : ℕ) → with_bit low high F n ≤ 1 + 2 * n
+  pub bit_most : (F : Face ℕ) (n : ℕ) → with_bit low high F n ≤ 1 + 2 * n
   unfolding with_bit
   bit_most F n = go (holds low F) (on_diagonal high (lowest_first F))
     where
@@ -18,7 +18,7 @@ module _ (low high : ℕ) where
       go false true = omega arith
       go false false = omega arith
 
-  choice-next : (F : Face ℕ) (fs : List (Face ℕ)) → choice low high (F ∷ fs) ≡ with_bit low high F (choice low high fs)
+  pub choice-next : (F : Face ℕ) (fs : List (Face ℕ)) → choice low high (F ∷ fs) ≡ with_bit low high F (choice low high fs)
   unfolding choice with_bit
   choice-next F fs = go (holds low F) refl
     where

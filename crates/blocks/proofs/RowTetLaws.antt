@@ -26,7 +26,7 @@ four_places l j h =
     cc
 
 -- one at most
-one_at_most : (vs : List ℕ) (r k : ℕ) → length (row_tets_at vs r k) ≤ 1
+pub one_at_most : (vs : List ℕ) (r k : ℕ) → length (row_tets_at vs r k) ≤ 1
 unfolding row_tets_at
 one_at_most vs r k = go (eqb (row_place r (4 * k)) 0)
   where
@@ -48,7 +48,7 @@ abbrev pub row_tets_from : List ℕ → ℕ → ℕ → List (Tet ℕ)
 row_tets_from vs r k = map (on_tet (at vs)) (row_tets (drop (4 * k) (row_places r)))
 
 module _ (vs : List ℕ) (r : ℕ) (below : r < 64) where
-  abbrev row_from : ℕ → List (Tet ℕ)
+  abbrev pub row_from : ℕ → List (Tet ℕ)
   row_from = row_tets_from vs r
 
   row-next : (k : ℕ) → k < 6 → row_from k ≡ row_tets_at vs r k ++ row_from (suc k)

@@ -1,11 +1,12 @@
 -- What a read adds to the bytes that were read before, and what the first bytes of a file tell of the whole. Assumes nothing.
-use Rattle.std.proofs.Common.{◌≡◌, sym, ap, subst, ◌∙◌, ℕ, ◌+◌, ◌≤◌, arith, List, ◌++◌, length, take, length-append, append_assoc}
-use Rattle.std.specs.Prelude.{Option, Some, None, IfSome}
-use Rattle.std.specs.Io.KnownBytes.{Consumes}
+use Rattle.std.proofs.Common.{◌≡◌, sym, ap, subst, ◌∙◌, ℕ, zero, suc, ◌+◌, ◌≤◌, arith, List, ◌++◌, length, take, length-append, append_assoc}
+use Rattle.std.specs.Prelude.{Option, Some, None, Result, Ok, Err, IfSome}
+use Rattle.std.specs.Io.{ReadsAtMost}
+use Rattle.std.specs.Io.KnownBytes.{Consumes, ReadConsumes}
 use Rattle.std.proofs.Math.Seq.{take-append-add}
 use Rattle.std.proofs.lemmas.List.{take-append-le, length-take-le}
 use borrow.Rule.Slice.PartMut.{put_mid, post_of}
-use Rattle.brinetoggle.specs.Input.{input_room}
+use Rattle.brinetoggle.specs.Input.{input_room, turn_of}
 use Rattle.converting.specs.Conversion.{program_output}
 use Rattle.brinetoggle.proofs.Theorems.{first_bytes_enough}
 
@@ -40,6 +41,14 @@ front-more {start} {before} {after} {at} {n} {room} k part f few h =
       within = simp length-append (omega arith);
       bytes = rw (take_written at k n room part f.within few) (consumed start before after (take at room) (take n part) f.bytes h);
     }
+
+-- a read that gave bytes
+pub front-turn : {E : Type 0} {start before after : Option (List ℕ)} {at n : ℕ} {room : List ℕ} (k : ℕ) (part : List ℕ) (got : Result ℕ E) → Front start before room at
+    → ReadsAtMost got part → ReadConsumes before after got part → turn_of got at ≡ Ok (Some n) → Front start after (put_mid at k room part) n
+front-turn k part (Ok zero) f p h e = absurd (cc e)
+front-turn {start} {after = after} {at = at} {room = room} k part (Ok (suc m)) f p h e =
+    subst (λ i. Front start after (put_mid at k room part) i) (cc e) (front-more k part f p.0 h.0)
+front-turn k part (Err x) f p h e = absurd (cc e)
 
 -- ---- the whole file
 

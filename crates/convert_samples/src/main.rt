@@ -3,7 +3,9 @@
 #![tactic(auto)]
 
 use converting::convert;
+use faults::Refusal;
 use std::io;
+use writing::write_refusal;
 
 // As in `writer_samples`: a sample program stands on its own.
 fn print_part(rt: &impl Print, buffer: &[u8], n: usize) -> io::Result<()> {
@@ -13,11 +15,20 @@ fn print_part(rt: &impl Print, buffer: &[u8], n: usize) -> io::Result<()> {
     }
 }
 
+// The line of a refusal, as its writer promises it byte for byte; `Display` of a refusal promises nothing.
+fn print_refusal(rt: &impl Print, refusal: Refusal) -> io::Result<()> {
+    let mut line = [0; 48];
+    match write_refusal(refusal, &mut line) {
+        Ok(n) => print_part(rt, &line, n),
+        Err(_) => Ok(()),
+    }
+}
+
 // A file converted: the text, or the line of the refusal.
 fn converted(rt: &impl Print, file: &[u8], output: &mut [u8]) -> io::Result<()> {
     match convert(file, output) {
         Ok(n) => print_part(rt, output, n),
-        Err(refusal) => println!(rt; "{refusal}"),
+        Err(refusal) => print_refusal(rt, refusal),
     }
 }
 

@@ -1,22 +1,24 @@
 -- Two vertices are the ends of an edge of an element exactly if they stand at the two places of an edge of its solid, in one order or the other.
 -- Assumes nothing.
 use mathlib.Core.Path.{◌≡◌, refl, sym, ap, ap₂, ◌∙◌}
-use mathlib.Core.Bool.{Bool, false, ◌&&◌, ◌||◌}
+use mathlib.Core.Bool.{Bool, true, false, ◌&&◌, ◌||◌}
 use mathlib.Core.List.{List, [], ◌∷◌, map}
 use mathlib.Core.Logic.{◌⊎◌, inl, inr}
 use Prim.Native.Nat.{ℕ}
 use lib.Dec.{T, eqb, eqb→eq}
 use borrow.Author.Tests.{eq-eqb}
 use Rattle.std.specs.Cmp.{both_ways}
+use Rattle.std.specs.Prelude.{get_or}
 use Rattle.std.proofs.lemmas.List.{map-append}
 use Rattle.laws.specs.Words.{keep, some, every, gather, among}
 use Rattle.laws.proofs.TestLaws.{T_true, true-T, and_left, and_right, and_both, or_cases, or_left, or_right}
+use Rattle.laws.proofs.PassLaws.{some-gather}
 use Rattle.solids.specs.declared.Solid.{Solid}
 use Rattle.solids.specs.declared.Solid.TheVariants.{Tetrahedron, Pyramid, Prism, Hexahedron}
 use Rattle.solids.specs.Solids.{Face, three, four, Edge, edge, element, faces, at, on_face, ends, edges_of}
 use Rattle.solids.specs.Fit.{same_set, has_edge}
 use Rattle.solids.proofs.SetLaws.{among_first, among_later, same_set_lem, set_there, set_back}
-use Rattle.edges.specs.EdgePlaces.{rises, edge_places, joins}
+use Rattle.edges.specs.EdgePlaces.{rises, edge_places, joins, alike, turned, is_edge, pairs, names_edges, reaches}
 
 -- ---- two vertices as ends
 
@@ -80,10 +82,6 @@ module _ (f : ℕ → ℕ) where
   all_edges_on (F ∷ fs) = rw (edges_on F, all_edges_on fs) (sym (map-append (on_edge f) (edges_of F) (gather edges_of fs)))
 
 -- ---- two vertices that stand at the ends of one of the edges
-
--- the same two places, in one order or the other
-abbrev alike : Edge ℕ → Edge ℕ → Bool
-alike E F = same_set (ends E) (ends F)
 
 abbrev one_way : ℕ → ℕ → ℕ → ℕ → Bool
 one_way u v a b = eqb a u && eqb b v
@@ -180,3 +178,85 @@ edge_found s vs u v =
     ∙ both_ways _ _ (λ e. T_true _ (some_stand u v vs risen (sides s) (risen_sides s) (true-T e))) (λ e. T_true _ (some_stand u v vs (sides s) risen (all_rise s) (true-T e)))
     ∙ ends_stand u v vs (sides s)
     ∙ ap (some (is_ends u v)) (sym (all_edges_on (at vs) (faces s)))
+
+-- ---- the same edges from both of their ends, in rows
+
+-- one test and any of three others, one by one
+spread : (x a b c : Bool) → (x && (a || (b || c))) ≡ ((x && a) || ((x && b) || ((x && c) || false)))
+spread false a b c = refl
+spread true true b c = refl
+spread true false true c = refl
+spread true false false true = refl
+spread true false false false = refl
+
+module _ (u v : ℕ) (vs : List ℕ) where
+  -- u stands at the first place of the edge, v at the other
+  abbrev goes : Edge ℕ → Bool
+  goes (edge p q) = one_way u v (at vs p) (at vs q)
+
+  row_goes : (row : List ℕ) → reaches u v vs row ≡ some goes (pairs row)
+  unfolding reaches
+  row_goes row =
+      spread (eqb (at vs (get_or row 0 0)) u) (eqb (at vs (get_or row 1 0)) v) (eqb (at vs (get_or row 2 0)) v) (eqb (at vs (get_or row 3 0)) v)
+
+  rows_go : (rows : List (List ℕ)) → some (reaches u v vs) rows ≡ some (λ row. some goes (pairs row)) rows
+  rows_go [] = refl
+  rows_go (row ∷ rows) = ap₂ {C = Bool} (λ a b. a || b) (row_goes row) (rows_go rows)
+
+  goes_stands : (E : Edge ℕ) → T (goes E) → T (stand u v vs E)
+  unfolding joins
+  goes_stands (edge p q) h = or_left (one_way u v (at vs p) (at vs q)) (one_way v u (at vs p) (at vs q)) h
+
+  some_goes_stands : (l : List (Edge ℕ)) → T (some goes l) → T (some (stand u v vs) l)
+  some_goes_stands [] h = absurd h
+  some_goes_stands (E ∷ l) h = by (or_cases (goes E) (some goes l) h) (some_goes_stands l)
+    where
+      by : T (goes E) ⊎ T (some goes l) → (T (some goes l) → T (some (stand u v vs) l)) → T (some (stand u v vs) (E ∷ l))
+      by (inl a) ih = or_left (stand u v vs E) (some (stand u v vs) l) (goes_stands E a)
+      by (inr a) ih = or_right (stand u v vs E) (some (stand u v vs) l) (ih a)
+
+  -- an edge that is in the list, and goes from u to v
+  goes_there : (E : Edge ℕ) (m : List (Edge ℕ)) → T (some (is_edge E) m) → T (goes E) → T (some goes m)
+  goes_there E [] h k = absurd h
+  goes_there (edge a b) (edge p q ∷ m) h k = by (or_cases (is_edge (edge a b) (edge p q)) (some (is_edge (edge a b)) m) h) (goes_there (edge a b) m)
+    where
+      by : T (is_edge (edge a b) (edge p q)) ⊎ T (some (is_edge (edge a b)) m) → (T (some (is_edge (edge a b)) m) → T (goes (edge a b)) → T (some goes m)) → T (some goes (edge p q ∷ m))
+      by (inl e) ih =
+          or_left (goes (edge p q)) (some goes m)
+          (rw (← eqb→eq a p (and_left (eqb a p) (eqb b q) e), ← eqb→eq b q (and_right (eqb a p) (eqb b q) e)) k)
+      by (inr e) ih = or_right (goes (edge p q)) (some goes m) (ih e k)
+
+  -- where each edge of the one list is in the other from both of its ends, one of these goes from u to v if u and v stand at its ends
+  stands_go : (l m : List (Edge ℕ)) → T (every (λ E. some (is_edge E) m && some (is_edge (turned E)) m) l) → T (some (stand u v vs) l) → T (some goes m)
+  unfolding joins
+  stands_go [] m h k = absurd k
+  stands_go (edge p q ∷ l) m h k = by (or_cases (stand u v vs (edge p q)) (some (stand u v vs) l) k) (stands_go l m later)
+    where
+      here : T (some (is_edge (edge p q)) m && some (is_edge (edge q p)) m)
+      here = and_left (some (is_edge (edge p q)) m && some (is_edge (edge q p)) m) (every (λ E. some (is_edge E) m && some (is_edge (turned E)) m) l) h
+
+      later : T (every (λ E. some (is_edge E) m && some (is_edge (turned E)) m) l)
+      later = and_right (some (is_edge (edge p q)) m && some (is_edge (edge q p)) m) (every (λ E. some (is_edge E) m && some (is_edge (turned E)) m) l) h
+
+      one : T (one_way u v (at vs p) (at vs q)) ⊎ T (one_way v u (at vs p) (at vs q)) → T (some goes m)
+      one (inl a) = goes_there (edge p q) m (and_left (some (is_edge (edge p q)) m) (some (is_edge (edge q p)) m) here) a
+      one (inr a) = goes_there (edge q p) m (and_right (some (is_edge (edge p q)) m) (some (is_edge (edge q p)) m) here) (other_way v u (at vs p) (at vs q) a)
+
+      by : T (stand u v vs (edge p q)) ⊎ T (some (stand u v vs) l) → (T (some (stand u v vs) l) → T (some goes m)) → T (some goes m)
+      by (inl a) ih = one (or_cases (one_way u v (at vs p) (at vs q)) (one_way v u (at vs p) (at vs q)) a)
+      by (inr a) ih = ih a
+
+-- an edge of one of the rows goes from u to v exactly if they are the ends of an edge of the element
+pub rows_found : (s : Solid) (rows : List (List ℕ)) → T (names_edges s rows) → (vs : List ℕ) (u v : ℕ) → some (reaches u v vs) rows ≡ has_edge (u ∷ v ∷ []) (element s vs)
+unfolding edge_places names_edges
+rows_found s rows named vs u v =
+    let risen = keep rises (sides s) in
+    let named_here = every (λ E. some (alike E) risen) (gather pairs rows) in
+    let named_both = every (λ E. some (is_edge E) (gather pairs rows) && some (is_edge (turned E)) (gather pairs rows)) risen in
+    rows_go u v vs rows
+    ∙ sym (some-gather (goes u v vs) pairs rows)
+    ∙ both_ways _ _
+    (λ e. T_true _ (some_stand u v vs (gather pairs rows) risen (and_left named_here named_both named) (some_goes_stands u v vs (gather pairs rows) (true-T e))))
+    (λ e. T_true _ (stands_go u v vs risen (gather pairs rows) (and_right named_here named_both named) (true-T e)))
+    ∙ sym (places_stand u v vs risen)
+    ∙ edge_found s vs u v

@@ -1,61 +1,53 @@
 // Whether two vertices are the ends of an edge of an element.
 #![tactic(auto)]
 
-ghost use Rattle.std.specs.Prelude.{◌≡◌, [], ◌∷◌};
+ghost use Rattle.std.specs.Prelude.{◌≡◌, [], ◌∷◌, T};
 ghost use Rattle.laws.specs.Words.{some};
 ghost use Rattle.solids.specs.Fit.{has_edge};
 ghost use Rattle.records.specs.Elements.{seen};
-ghost use Rattle.edges.specs.EdgePlaces.{edge_places, joins};
+ghost use Rattle.edges.specs.EdgePlaces.{names_edges, reaches};
 
 use faces::vertex_at;
 use records::Element;
 use solids::{Place, Solid, Vertex};
 
-// The edges of each solid, each once, from its lower place to its higher.
-const TETRAHEDRON: [[u8; 2]; 6] = [[2, 3], [3, 4], [1, 4], [1, 2], [2, 4], [1, 3]];
+// The edges of each solid, from both of their ends: a row for each place, which it names first, then three places to which an edge goes from it.
+const TETRAHEDRON: [[u8; 4]; 4] = [[1, 2, 3, 4], [2, 1, 3, 4], [3, 1, 2, 4], [4, 1, 2, 3]];
 
-const PYRAMID: [[u8; 2]; 8] = [
-    [1, 4],
-    [1, 2],
-    [2, 5],
-    [2, 3],
-    [3, 5],
-    [3, 4],
-    [4, 5],
-    [1, 5],
+// Four edges meet at the tip, so it has two rows.
+const PYRAMID: [[u8; 4]; 6] = [
+    [1, 2, 4, 5],
+    [2, 1, 3, 5],
+    [3, 2, 4, 5],
+    [4, 1, 3, 5],
+    [5, 1, 2, 3],
+    [5, 1, 3, 4],
 ];
 
-const PRISM: [[u8; 2]; 9] = [
-    [1, 3],
-    [4, 5],
-    [5, 6],
-    [1, 2],
-    [2, 5],
-    [2, 3],
-    [3, 6],
-    [1, 4],
-    [4, 6],
+const PRISM: [[u8; 4]; 6] = [
+    [1, 2, 3, 4],
+    [2, 1, 3, 5],
+    [3, 1, 2, 6],
+    [4, 1, 5, 6],
+    [5, 2, 4, 6],
+    [6, 3, 4, 5],
 ];
 
-const HEXAHEDRON: [[u8; 2]; 12] = [
-    [1, 4],
-    [1, 2],
-    [2, 6],
-    [1, 5],
-    [5, 8],
-    [2, 3],
-    [3, 7],
-    [5, 6],
-    [6, 7],
-    [7, 8],
-    [3, 4],
-    [4, 8],
+const HEXAHEDRON: [[u8; 4]; 8] = [
+    [1, 2, 4, 5],
+    [2, 1, 3, 6],
+    [3, 2, 4, 7],
+    [4, 1, 3, 8],
+    [5, 1, 6, 8],
+    [6, 2, 5, 7],
+    [7, 3, 6, 8],
+    [8, 4, 5, 7],
 ];
 
-// The edges of a solid; the faces are a table of another room, and the two no plainer as one.
-#[tactic(auto, unfolding(crate::specs::EdgePlaces::edge_places))]
-fn edges_of(solid: Solid) -> &'static [[u8; 2]]
-    ensures { result.now ≡ edge_places solid }
+// The rows of a solid; the faces are a table of another room, and the two no plainer as one.
+#[tactic(auto, unfolding(crate::specs::EdgePlaces::names_edges))]
+fn rows_of(solid: Solid) -> &'static [[u8; 4]]
+    ensures { T (names_edges solid result.now) }
 {
     match solid {
         Solid::Tetrahedron => &TETRAHEDRON,
@@ -65,28 +57,29 @@ fn edges_of(solid: Solid) -> &'static [[u8; 2]]
     }
 }
 
-// The two vertices stand at the ends of an edge, in one order or the other.
-#[tactic(auto, unfolding(crate::specs::EdgePlaces::joins))]
-fn joins(edge: [u8; 2], corners: &[u16], u: Vertex, v: Vertex) -> bool
-    ensures { result ≡ joins u.0 v.0 corners.now edge }
+// The vertex u stands at the first place of a row, and v at one of the others.
+#[tactic(auto, unfolding(crate::specs::EdgePlaces::reaches))]
+fn reaches(row: [u8; 4], corners: &[u16], u: Vertex, v: Vertex) -> bool
+    ensures { result ≡ reaches u.0 v.0 corners.now row }
 {
-    let [p, q] = edge;
-    let start = vertex_at(corners, Place(p));
-    // The second end is looked up only where the first is one of the two: most edges have neither.
-    (start == u && vertex_at(corners, Place(q)) == v)
-        || (start == v && vertex_at(corners, Place(q)) == u)
+    let [p, a, b, c] = row;
+    // The ends are looked up only where the row is that of u: most are not.
+    vertex_at(corners, Place(p)) == u
+        && (vertex_at(corners, Place(a)) == v
+            || vertex_at(corners, Place(b)) == v
+            || vertex_at(corners, Place(c)) == v)
 }
 
-// The two vertices stand at the ends of one of the edges.
-fn any_joins(edges: &[[u8; 2]], corners: &[u16], u: Vertex, v: Vertex) -> bool
-    ensures { result ≡ some (joins u.0 v.0 corners.now) edges.now }
+// An edge of one of the rows goes from u to v.
+fn any_reaches(rows: &[[u8; 4]], corners: &[u16], u: Vertex, v: Vertex) -> bool
+    ensures { result ≡ some (reaches u.0 v.0 corners.now) rows.now }
 {
-    edges.iter().any(|&edge| joins(edge, corners, u, v))
+    rows.iter().any(|&row| reaches(row, corners, u, v))
 }
 
 // Two vertices are the ends of an edge of the element.
 pub fn has_edge(u: Vertex, v: Vertex, element: Element) -> bool
     ensures { result ≡ has_edge (u.0 ∷ v.0 ∷ []) (seen element.entry) }
 {
-    any_joins(edges_of(element.solid), element.corners, u, v)
+    any_reaches(rows_of(element.solid), element.corners, u, v)
 }

@@ -24,10 +24,8 @@ pub enum Face {
 pub fn vertex_at(corners: &[u16], place: Place) -> Vertex
     ensures { result.0 ≡ at corners.now place.0 }
 {
-    if place.0 == 0 {
-        return Vertex(0);
-    }
-    let index = usize::from(place.0) - 1;
+    // Place 0 turns into an index behind every corner.
+    let index = usize::from(place.0).wrapping_sub(1);
     Vertex(corners.get(index).copied().unwrap_or(0))
 }
 

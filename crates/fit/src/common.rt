@@ -5,7 +5,8 @@ ghost use Rattle.solids.specs.Fit.{common};
 ghost use Rattle.records.specs.Elements.{seen};
 
 use limits::CORNER_WIDTH;
-use records::Element;
+use records::{Element, is_among};
+use solids::Vertex;
 use std::marker::Model;
 
 // At most as many vertices as an element has corners; a dozen lines of our own, because the house stands on std alone and crates.txt lists no library of arrays with a length.
@@ -27,7 +28,8 @@ impl Model for Common {
 }
 
 impl Common {
-    fn new() -> Common
+    // None so far.
+    pub fn new() -> Common
         ensures { result ≡ [] }
     {
         Common {
@@ -44,18 +46,17 @@ impl Common {
         self.count += 1;
     }
 
-    // The corners of an element that are corners of its neighbour too, in their order.
-    pub fn of(element: Element, neighbour: Element) -> Common
-        requires { length element.corners.now ≤ corner_width }
-        ensures { result ≡ common (seen element.entry) (seen neighbour.entry) }
+    // The corners of an element that are corners of its neighbour too, in their order. Filled in place, since a value that is returned would be copied once more.
+    pub fn fill(&mut self, element: Element, neighbour: Element)
+        requires none { self.old ≡ [] }
+        requires few { length element.corners.now ≤ corner_width }
+        ensures { self.new ≡ common (seen element.entry) (seen neighbour.entry) }
     {
-        let mut common = Common::new();
         for &vertex in element.corners {
-            if neighbour.corners.contains(&vertex) {
-                common.push(vertex);
+            if is_among(Vertex(vertex), neighbour.corners) {
+                self.push(vertex);
             }
         }
-        common
     }
 
     pub fn as_slice(&self) -> &[u16]

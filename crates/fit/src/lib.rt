@@ -91,7 +91,8 @@ pub fn pair_fits(a: &[u16], b: &[u16]) -> bool
         element: Element::of(a),
         neighbour: Element::of(b),
     };
-    let common = Common::of(pair.element, pair.neighbour);
+    let mut common = Common::new();
+    common.fill(pair.element, pair.neighbour);
     let vertices = common.as_slice();
     if vertices.len() <= 1 {
         return true;

@@ -8,13 +8,14 @@ ghost use Rattle.solids.specs.Fit.{same_set};
 ghost use Rattle.faces.specs.Faces.{face_of};
 
 use faces::Face;
+use records::is_among;
 use solids::Vertex;
 
 // Each number of the list is among the others.
 pub fn all_among(list: &[u16], others: &[u16]) -> bool
     ensures { result ≡ every (λ v. among v others.now) list.now }
 {
-    list.iter().all(|v| others.contains(v))
+    list.iter().all(|&v| is_among(Vertex(v), others))
 }
 
 // The same numbers, in whatever order.

@@ -148,16 +148,35 @@ module _ (k : ℕ) (used spare : List ℕ) (many : length used ≡ k) (eight : l
 
 -- ---- what a record is found to be
 
--- a record of nine numbers, of a kind, with no stray and no spare vertex number: whether a vertex stands twice
-module _ (limit : ℕ) (r : List ℕ) (wide : length r ≡ element_width) (kind : is_kind (kind_of r) ≡ true)
-    (vertex : some (stray_vertex limit) (used_of r) ≡ false) (spare : some not_zero (spare_of r) ≡ false) where
-  pub finding_repeat : distinct (used_of r) ≡ false → Err Repeat ≡ record_finding limit r
+-- the first fault, by the tests that lead to it
+module _ (limit : ℕ) (r : List ℕ) where
+  pub finding_short : (length r ≡ element_width → ⊥) → Err Kind ≡ record_finding limit r
   unfolding record_finding
-  finding_repeat d = rw (eq-eqb (length r) element_width wide, kind, vertex, spare, d)
+  finding_short n = rw (ne_eqb (length r) element_width n)
 
-  pub finding_clean : distinct (used_of r) ≡ true → Ok tt ≡ record_finding limit r
-  unfolding record_finding
-  finding_clean d = rw (eq-eqb (length r) element_width wide, kind, vertex, spare, d)
+  module _ (wide : length r ≡ element_width) where
+    pub finding_kind : is_kind (kind_of r) ≡ false → Err Kind ≡ record_finding limit r
+    unfolding record_finding
+    finding_kind k = rw (eq-eqb (length r) element_width wide, k)
+
+    module _ (kind : is_kind (kind_of r) ≡ true) where
+      pub finding_vertex : some (stray_vertex limit) (used_of r) ≡ true → Err Vertex ≡ record_finding limit r
+      unfolding record_finding
+      finding_vertex v = rw (eq-eqb (length r) element_width wide, kind, v)
+
+      module _ (vertex : some (stray_vertex limit) (used_of r) ≡ false) where
+        pub finding_spare : some not_zero (spare_of r) ≡ true → Err Spare ≡ record_finding limit r
+        unfolding record_finding
+        finding_spare s = rw (eq-eqb (length r) element_width wide, kind, vertex, s)
+
+        module _ (spare : some not_zero (spare_of r) ≡ false) where
+          pub finding_repeat : distinct (used_of r) ≡ false → Err Repeat ≡ record_finding limit r
+          unfolding record_finding
+          finding_repeat d = rw (eq-eqb (length r) element_width wide, kind, vertex, spare, d)
+
+          pub finding_clean : distinct (used_of r) ≡ true → Ok tt ≡ record_finding limit r
+          unfolding record_finding
+          finding_clean d = rw (eq-eqb (length r) element_width wide, kind, vertex, spare, d)
 
 -- a finding past a test that may have found a fault
 past : (b : Bool) (f : Fault) {next : Result (Unit {0}) Fault} → cond b (Err f) next ≡ Ok tt → (b ≡ false) × (next ≡ Ok tt)

@@ -134,18 +134,53 @@ fn has_nonzero(spare: &[u16]) -> bool
     spare.iter().any(|&v| v != 0)
 }
 
-// The vertex is among those of the list.
+// The vertex is among eight: each number is compared, without a branch.
+fn is_of_eight(v: Vertex, eight: [u16; 8]) -> bool
+    ensures { result ≡ among v.0 eight }
+{
+    let [a, b, c, d, e, f, g, h] = eight;
+    let v = v.0;
+    (v == a)
+        | ((v == b) | ((v == c) | ((v == d) | ((v == e) | ((v == f) | ((v == g) | (v == h)))))))
+}
+
+// The vertex is among four, in the same way.
+fn is_of_four(v: Vertex, four: [u16; 4]) -> bool
+    ensures { result ≡ among v.0 four }
+{
+    let [a, b, c, d] = four;
+    let v = v.0;
+    (v == a) | ((v == b) | ((v == c) | (v == d)))
+}
+
+// The vertex is one of the list.
+fn is_one_of(v: Vertex, list: &[u16]) -> bool
+    ensures { result ≡ among v.0 list.now }
+{
+    for &other in list {
+        if v.0 == other {
+            return true;
+        }
+    }
+    false
+}
+
+// The vertex is among those of the list. The corners of a hexahedron and of a tetrahedron are compared without a loop, since this is the innermost test of judging.
 pub fn is_among(v: Vertex, list: &[u16]) -> bool
     ensures { result ≡ among v.0 list.now }
 {
-    list.contains(&v.0)
+    match list {
+        [a, b, c, d, e, f, g, h] => is_of_eight(v, [*a, *b, *c, *d, *e, *f, *g, *h]),
+        [a, b, c, d] => is_of_four(v, [*a, *b, *c, *d]),
+        _ => is_one_of(v, list),
+    }
 }
 
 // No number stands twice.
 fn is_distinct(numbers: &[u16]) -> bool
     ensures { result ≡ distinct numbers.now }
 {
-    (0..numbers.len()).all(|i| !numbers[i + 1..].contains(&numbers[i]))
+    (0..numbers.len()).all(|i| !is_among(Vertex(numbers[i]), &numbers[i + 1..]))
 }
 
 // The first fault of a record whose vertex numbers may go up to a limit: KIND, VERTEX, SPARE, REPEAT, in this order.

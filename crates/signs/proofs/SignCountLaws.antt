@@ -36,7 +36,7 @@ compared (pos zero) = refl
 compared (pos (suc n)) = rw (le-ltb (suc n) 0 (omega arith), lt-ltb 0 (suc n) (omega arith))
 compared (negsuc n) = refl
 
-abbrev is_plus : Ordering → Bool
+abbrev pub is_plus : Ordering → Bool
 is_plus Greater = true
 is_plus Equal = false
 is_plus Less = false
@@ -46,13 +46,13 @@ is_null Greater = false
 is_null Equal = true
 is_null Less = false
 
-abbrev is_minus : Ordering → Bool
+abbrev pub is_minus : Ordering → Bool
 is_minus Greater = false
 is_minus Equal = false
 is_minus Less = true
 
 -- the three tests of a number are those of its sign
-plus_sign : (z : ℤ) → lt_z (pos 0) z ≡ is_plus (sign_of z)
+pub plus_sign : (z : ℤ) → lt_z (pos 0) z ≡ is_plus (sign_of z)
 plus_sign (pos zero) = refl
 plus_sign (pos (suc n)) = lt-ltb 0 (suc n) (omega arith)
 plus_sign (negsuc n) = refl
@@ -62,7 +62,7 @@ null_sign (pos zero) = refl
 null_sign (pos (suc n)) = ne_eqb (suc n) 0 (λ e. omega arith)
 null_sign (negsuc n) = ne_eqb (suc n) 0 (λ e. omega arith)
 
-minus_sign : (z : ℤ) → lt_z z (pos 0) ≡ is_minus (sign_of z)
+pub minus_sign : (z : ℤ) → lt_z z (pos 0) ≡ is_minus (sign_of z)
 minus_sign (pos zero) = refl
 minus_sign (pos (suc n)) = le-ltb (suc n) 0 (omega arith)
 minus_sign (negsuc n) = refl

@@ -88,7 +88,8 @@ pub fn count_signs(keys: &[u64], sizes: &[u8], vertices: &[i32]) -> SignCounts
     let mut rest = keys;
     for &size in sizes {
         let (block, behind) = rest.split_at(usize::from(size));
-        counts.add(element_counts(block, vertices));
+        let more = element_counts(block, vertices);
+        counts.add(more);
         rest = behind;
     }
     counts

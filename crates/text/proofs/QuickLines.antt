@@ -170,7 +170,7 @@ module _ (t rest : List ℕ) (mark : Mark) (rooms : Rooms) (state : ReaderState)
       unfolding bad_counts
       element_counts p = refl
 
-      element-few : element_width * state.elements + k ≤ length elements
+      pub element-few : element_width * state.elements + k ≤ length elements
       unfolding too_many
       element-few = omega (arith, leb-false element_limit state.elements a.few, o.element_length)
 

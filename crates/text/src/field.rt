@@ -17,16 +17,20 @@ use numbers::{coordinate, number, value};
 fn are_fields(s: &[u8], n: usize) -> bool
     ensures { result ≡ are_fields n (split space s.now) }
 {
+    if n == 0 {
+        return false;
+    }
     let mut rest = s;
-    let mut left = n;
-    while let Some((field, more)) = split_once(rest, SPACE) {
-        if left == 0 || field.is_empty() {
+    for _ in 1..n {
+        let Some((field, more)) = split_once(rest, SPACE) else {
+            return false;
+        };
+        if field.is_empty() {
             return false;
         }
-        left -= 1;
         rest = more;
     }
-    left == 1 && !rest.is_empty()
+    !rest.is_empty() && split_once(rest, SPACE).is_none()
 }
 
 // Whether a line has another number of fields than n, or wrong spacing.

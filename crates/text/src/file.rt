@@ -1,5 +1,6 @@
 // The verdict on a whole file: its lines in order, each judged and kept, threading the reader's state.
-ghost use Rattle.std.specs.Prelude.{◌≡◌};
+ghost use Rattle.std.specs.Prelude.{◌≡◌, position, ◌==◌};
+ghost use Rattle.limits.specs.Limits.{line_end};
 ghost use Rattle.format.specs.File.{at_end};
 ghost use Rattle.text.specs.Reading.{verdict_of};
 ghost use Rattle.text.specs.ReadingLoops.{Ready, Own, LineRead, FileRead};
@@ -12,7 +13,7 @@ use crate::store::keep_line;
 use faults::{Fault, Refusal};
 use format::{ReaderState, Rooms};
 use limits::{ELEMENT_NUMBERS, FILE_LIMIT, LINE_END, VERTEX_NUMBERS};
-use numbers::scan::{from, split_once};
+use numbers::scan::{find, from};
 
 // What the state after the last line says, where the next line would have number n.
 #[tactic(auto, unfolding(crate::specs::Reading::verdict_of, format::specs::File::at_end))]
@@ -29,6 +30,14 @@ fn at_end(state: ReaderState, n: usize) -> Result<ReadCounts, Refusal>
     }
 }
 
+// Where the line at the front of a text ends, if it does. Not inlined: inlined, the search takes longer for each byte.
+#[inline(never)]
+fn end_of_line(t: &[u8]) -> Option<usize>
+    ensures { result ≡ position (λ x. x == line_end) t.now }
+{
+    find(t, LINE_END)
+}
+
 // The line at the front of a text, judged test by test, its record kept where it is accepted: the state after it, and how many bytes it takes with its byte 10.
 fn judged_line(
     t: &[u8],
@@ -40,9 +49,10 @@ fn judged_line(
     requires { Ready t.now state vertices.old elements.old }
     ensures { LineRead t.now rooms state vertices.old elements.old result vertices.new elements.new }
 {
-    let Some((line, _)) = split_once(t, LINE_END) else {
+    let Some(end) = end_of_line(t) else {
         return Err(open_line(state));
     };
+    let line = &t[..end];
     let next = judge_line(line, rooms, state)?;
     keep_line(line, state, vertices, elements);
     Ok((next, line.len() + 1))

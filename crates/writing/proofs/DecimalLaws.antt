@@ -13,7 +13,7 @@ use Rattle.writing.specs.Written.{digit, digits_of, decimal}
 
 -- ---- the digits one by one
 
-one_digit : (f k : ℕ) → (f ≡ 0 → ⊥) → k < 10 → digits_of f k ≡ digit k ∷ []
+pub one_digit : (f k : ℕ) → (f ≡ 0 → ⊥) → k < 10 → digits_of f k ≡ digit k ∷ []
 unfolding digits_of
 one_digit zero k n h = absurd (n refl)
 one_digit (suc f) k n h = rw (lt-ltb k 10 h)

@@ -185,7 +185,7 @@ numbers-short (v ∷ l) h =
     simp length-append (omega (arith, numbers-short l (and_right (is_number vertex_limit v) (every (is_number vertex_limit) l) h)))
 
 module _ (r : List ℕ) (clean : record_finding vertex_limit r ≡ Ok tt) where
-  kind_of_clean : kind_of r ≤ 8
+  pub kind_of_clean : kind_of r ≤ 8
   kind_of_clean = kind-small (kind_of r) (clean_faultless vertex_limit r clean).kind
 
   corner_count : length (used_of r) ≡ kind_of r

@@ -31,17 +31,17 @@ module _ {e x e' x' : Element} {c : List ℕ} (p : e ≡ e') (q : x ≡ x') (the
     unfolding fits
     face t s = rw (← p, ← q, ← these, lt-leb (length c) 1 h, ← tested, t) s
 
-pub of-common-requires : goal.of-common-requires
-of-common-requires c = used_few c.args.a.now c.of.ensures
+pub fill-requires-clause-few : goal.fill-requires-clause-few
+fill-requires-clause-few c = used_few c.args.a.now c.of.ensures
 
 pub returns-then-vertices-le1 : goal.returns-then-vertices-le1
-returns-then-vertices-le1 c = few c.of.ensures c.of-2.ensures (c.as_slice-vertices.ensures ∙ c.of-common.ensures) c.if-vertices-le1.true
+returns-then-vertices-le1 c = few c.of.ensures c.of-2.ensures (c.as_slice-vertices.ensures ∙ c.fill.ensures) c.if-vertices-le1.true
 
 pub returns-then-share_edge : goal.returns-then-share_edge
 returns-then-share_edge c =
     c.if-share_edge.true
-    ∙ edge c.of.ensures c.of-2.ensures (c.as_slice-vertices.ensures ∙ c.of-common.ensures) c.if-vertices-le1.false c.share_edge.ensures c.if-share_edge.true
+    ∙ edge c.of.ensures c.of-2.ensures (c.as_slice-vertices.ensures ∙ c.fill.ensures) c.if-vertices-le1.false c.share_edge.ensures c.if-share_edge.true
 
 pub returns-else-share_edge : goal.returns-else-share_edge
 returns-else-share_edge c =
-    face c.of.ensures c.of-2.ensures (c.as_slice-vertices.ensures ∙ c.of-common.ensures) c.if-vertices-le1.false c.share_edge.ensures c.if-share_edge.false c.share_face.ensures
+    face c.of.ensures c.of-2.ensures (c.as_slice-vertices.ensures ∙ c.fill.ensures) c.if-vertices-le1.false c.share_edge.ensures c.if-share_edge.false c.share_face.ensures

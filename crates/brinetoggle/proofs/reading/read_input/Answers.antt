@@ -1,8 +1,9 @@
 -- `brinetoggle::reading::read_input` reads to the end or until the room is full. Assumes nothing.
-use Rattle.brinetoggle.proofs.InputLaws.{front-more}
+use Rattle.std.proofs.Common.{rules}
+use Rattle.brinetoggle.proofs.InputLaws.{front-turn}
 use Rattle.brinetoggle.proofs.reading.read_input.Goals as goal
 
 pub loop-at-preserved : goal.loop-at-preserved
 loop-at-preserved g c =
-    let read = c.in_ok-n.ensures in
-    front-more _ c.read.new.buf c.loop-at.invariant read.bound.0 read.bytes.0
+    let read = c.read-got in
+    front-turn _ read.new.buf read.result c.loop-at.invariant read.ensures.bound read.ensures.bytes (search rules)

@@ -89,16 +89,16 @@ loop-size-init c =
 pub split_at-requires : goal.split_at-requires
 split_at-requires c = room c.requires c.loop-size.invariant c.loop-size-test.true c.from.ensures
 
-pub element_counts-requires : goal.element_counts-requires
-element_counts-requires c = block_ranged c.requires c.loop-size.invariant c.loop-size-test.true c.from.ensures c.split_at.ensures.front
+pub element_counts-more-requires : goal.element_counts-more-requires
+element_counts-more-requires c = block_ranged c.requires c.loop-size.invariant c.loop-size-test.true c.from.ensures c.split_at.ensures.front
 
 pub add-requires : goal.add-requires
 add-requires c =
-    few_sums c.requires c.loop-size.invariant c.loop-size-test.true c.from.ensures c.split_at.ensures.front c.element_counts.ensures
+    few_sums c.requires c.loop-size.invariant c.loop-size-test.true c.from.ensures c.split_at.ensures.front c.element_counts-more.ensures
 
 pub loop-size-preserved : goal.loop-size-preserved
 loop-size-preserved c =
-    step c.requires c.loop-size.invariant c.loop-size-test.true c.from.ensures c.split_at.ensures.front c.element_counts.ensures c.add.ensures
+    step c.requires c.loop-size.invariant c.loop-size-test.true c.from.ensures c.split_at.ensures.front c.element_counts-more.ensures c.add.ensures
     c.split_at.ensures.back
 
 pub returns : goal.returns

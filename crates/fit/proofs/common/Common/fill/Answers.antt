@@ -4,8 +4,8 @@ use Rattle.std.proofs.lemmas.List.Elements.{filter_more}
 use Rattle.std.proofs.Math.Seq.{length-take-le}
 use Rattle.limits.specs.Limits.{corner_width}
 use Rattle.laws.specs.Words.{keep, among}
-use Rattle.fit.proofs.common.Common.of.Goals as goal
-use Rattle.fit.proofs.common.Common.of.Goals.{then-contains, else-contains}
+use Rattle.fit.proofs.common.Common.fill.Goals as goal
+use Rattle.fit.proofs.common.Common.fill.Goals.{then-is_among, else-is_among}
 
 -- one corner more
 module _ (t : ℕ → Bool) (xs : List ℕ) (i : ℕ) {k : List ℕ} (w : k ≡ keep t (take i xs)) (h : i < length xs) where
@@ -28,12 +28,12 @@ room_left : (t : ℕ → Bool) (xs : List ℕ) (i : ℕ) → i < length xs → l
 room_left t xs i h l = omega (arith, keep_few t (take i xs), length-take-le i xs)
 
 pub push-requires : goal.push-requires
-push-requires c = rw c.loop-vertex.invariant (room_left (λ (v : ℕ). among v c.args.neighbour.corners.now) c.args.element.corners.now c.loop-vertex.vertex-index c.loop-vertex-test.true c.requires)
+push-requires c = rw c.loop-vertex.invariant (room_left (λ (v : ℕ). among v c.args.neighbour.corners.now) c.args.element.corners.now c.loop-vertex.vertex-index c.loop-vertex-test.true c.requires.few)
 
 pub loop-vertex-preserved : goal.loop-vertex-preserved
 loop-vertex-preserved c =
     let t = λ (v : ℕ). among v c.args.neighbour.corners.now in
-    elim c.if-contains.branch [
-      | then-contains b ↦ rw (b.common-is, b.push.ensures) (more_yes t c.args.element.corners.now c.loop-vertex.vertex-index c.loop-vertex.invariant c.loop-vertex-test.true (search rules))
-      | else-contains b ↦ rw b.common-is (more-no t c.args.element.corners.now c.loop-vertex.vertex-index c.loop-vertex.invariant c.loop-vertex-test.true (search rules))
+    elim c.if-is_among.branch [
+      | then-is_among b ↦ rw (b.self-is, b.push.ensures) (more_yes t c.args.element.corners.now c.loop-vertex.vertex-index c.loop-vertex.invariant c.loop-vertex-test.true (search rules))
+      | else-is_among b ↦ rw b.self-is (more-no t c.args.element.corners.now c.loop-vertex.vertex-index c.loop-vertex.invariant c.loop-vertex-test.true (search rules))
     ]
